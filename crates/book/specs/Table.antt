@@ -1,0 +1,237 @@
+-- The table of document 01, written once: for each call the refusals with their conditions, in order, and the effect of a call that
+-- is not refused. It is a function of a `State`, what the table looks at: the book is such a state, and so is a work area.
+-- Assumes nothing.
+use mathlib.Core.Bool.{Bool, true, false, not, cond, _&&_}
+use mathlib.Core.List.{List, [], _∷_, _++_}
+use Prim.Native.Nat.{ℕ, zero, suc, _-_}
+use lib.ListN.{length, drop}
+use lib.IntN.{ℤ, pos}
+use lib.Dec.{eqb, leb, ltb}
+use Rattle.numbers.specs.Extended.{Extended, below, at, above}
+use Rattle.meaning.specs.Meaning.{atom, same, Said, silent, conflict, forced}
+use Rattle.book.specs.Rows.{Row, row, trail, up-to, row-of, numbered, explanation, conflict-explanation, any, origins, flat}
+
+-- ---- calls and answers
+
+-- a list call is fed the length of its lent result list
+pub data Call : Type 0 where
+  give : ℤ → Call
+  open-level : Call
+  take-back : ℕ → Call
+  propagate : Call
+  bounds : ℕ → Call
+  explain : ℤ → ℕ → Call
+  explain-conflict : ℕ → ℕ → Call
+  origin : ℤ → ℕ → Call
+  list-trail : ℕ → Call
+
+-- `still` and `clash` carry the number of literals put on; `clash` the sentence in conflict before it
+pub data Answer : Type 0 where
+  refused : (code value : ℕ) → Answer
+  done : Answer
+  still : ℕ → Answer
+  clash : ℕ → ℕ → Answer
+  between : Extended → Extended → Answer
+  listed : List ℤ → Answer
+
+-- ---- the paper's numbers for every answer
+
+-- 0 a number; 1 below every number, 2 above every number, each with number 0
+abbrev pub mark : Extended → ℕ
+mark below = 1
+mark (at z) = 0
+mark above = 2
+
+abbrev pub number : Extended → ℤ
+number below = pos 0
+number (at z) = z
+number above = pos 0
+
+pub record Paper : Type 0 where
+  -- 0, or the refusal
+  pub code : ℕ
+  -- a refusal's value, a list's length, or the number of literals put on
+  pub value : ℕ
+  -- the sentence in conflict, 0 where there is none
+  pub sentence : ℕ
+  pub least-mark : ℕ
+  pub least : ℤ
+  pub greatest-mark : ℕ
+  pub greatest : ℤ
+
+abbrev pub numbers : (code value sentence : ℕ) → Extended → Extended → Paper
+numbers c n k v w = record { code = c; value = n; sentence = k; least-mark = mark v; least = number v; greatest-mark = mark w; greatest = number w }
+
+abbrev pub paper : Answer → Paper
+paper (refused c n) = numbers c n 0 (at (pos 0)) (at (pos 0))
+paper done = numbers 0 0 0 (at (pos 0)) (at (pos 0))
+paper (still n) = numbers 0 n 0 (at (pos 0)) (at (pos 0))
+paper (clash k n) = numbers 0 n k (at (pos 0)) (at (pos 0))
+paper (between v w) = numbers 0 0 0 v w
+paper (listed ls) = numbers 0 (length ls) 0 (at (pos 0)) (at (pos 0))
+
+-- the lent result list after the call: words past the result keep their contents
+abbrev pub list-after : Answer → List ℤ → List ℤ
+list-after (refused c n) old = old
+list-after done old = old
+list-after (still n) old = old
+list-after (clash k n) old = old
+list-after (between v w) old = old
+list-after (listed ls) old = ls ++ drop (length ls) old
+
+-- ---- what the table looks at
+
+-- of a sentence: its atoms in the order in which it is scanned, what it says first over a trail, and its least and greatest value
+pub record Judged : Type 0 where
+  pub scope : List ℕ
+  pub says : List ℤ → Said
+  pub least : List ℤ → Extended
+  pub greatest : List ℤ → Extended
+
+pub record State : Type 0 where
+  -- the area is not whole
+  pub broken : Bool
+  pub atoms : ℕ
+  -- the highest level
+  pub levels : ℕ
+  pub sentences : List Judged
+  pub level : ℕ
+  pub rows : List Row
+
+abbrev pub scopes : List Judged → List (List ℕ)
+scopes [] = []
+scopes (j ∷ js) = j .scope ∷ scopes js
+
+abbrev pub nobody : Judged
+nobody = record { scope = []; says = λ t. silent; least = λ t. below; greatest = λ t. below }
+
+-- ---- propagate
+
+pub data Speech : Type 0 where
+  nothing : Speech
+  objects : ℕ → Speech
+  derives : ℕ → ℤ → Speech
+
+abbrev pub spoken : Said → ℕ → Speech → Speech
+spoken silent k rest = rest
+spoken conflict k rest = objects k
+spoken (forced l) k rest = derives k l
+
+-- the lowest-numbered sentence that has something to say, and what; the first of the list has number k
+unfoldable pub speech : ℕ → List Judged → List ℤ → Speech
+speech k [] t = nothing
+speech k (j ∷ js) t = spoken (j .says t) k (speech (suc k) js t)
+
+-- where propagate stops: in conflict with a sentence, or 0 at still
+pub record Stop : Type 0 where
+  pub sentence : ℕ
+  pub rows : List Row
+
+-- at most so many steps; one more than there are atoms always suffice
+unfoldable pub run : List Judged → (level steps : ℕ) → List Row → Stop
+run js v zero rs = record { sentence = 0; rows = rs }
+run js v (suc n) rs =
+    elim (speech 1 js (trail rs)) [ nothing ↦ record { sentence = 0; rows = rs } | objects k ↦ record { sentence = k; rows = rs } | derives k l ↦ run js v n (row l v k ∷ rs) ]
+
+abbrev pub propagated : State → Stop
+propagated q = run (q .sentences) (q .level) (suc (q .atoms)) (q .rows)
+
+-- ---- the lists that are handed back
+
+abbrev pub result : State → Call → List ℤ
+result q (give l) = []
+result q open-level = []
+result q (take-back k) = []
+result q propagate = []
+result q (bounds k) = []
+result q (explain l room) = explanation (scopes (q .sentences)) (q .rows) l
+result q (explain-conflict k room) = conflict-explanation (scopes (q .sentences)) (q .rows) k
+result q (origin l room) = origins (scopes (q .sentences)) (q .rows) l
+result q (list-trail room) = flat (q .rows)
+
+-- ---- refusals
+
+pub record Refusal : Type 0 where
+  pub code : ℕ
+  pub applies : Bool
+  pub value : ℕ
+
+abbrev pub refusal : ℕ → Bool → Refusal
+refusal c b = record { code = c; applies = b; value = 0 }
+
+-- 18 comes with the needed length
+abbrev pub too-short : State → Call → ℕ → Refusal
+too-short q x room = record { code = 18; applies = ltb room (length (result q x)); value = length (result q x) }
+
+abbrev pub no-atom : State → ℤ → Bool
+no-atom q l = not (leb 1 (atom l) && leb (atom l) (q .atoms))
+
+abbrev pub no-sentence : State → ℕ → Bool
+no-sentence q k = not (leb 1 k && leb k (length (q .sentences)))
+
+abbrev pub on-trail : State → ℕ → Bool
+on-trail q a = any (λ l. eqb (atom l) a) (trail (q .rows))
+
+abbrev pub stands : State → ℤ → Bool
+stands q l = any (same l) (trail (q .rows))
+
+abbrev pub was-given : State → ℤ → Bool
+was-given q l = eqb (row-of l (q .rows) .mine .reason) 0
+
+abbrev pub is-conflict : Said → Bool
+is-conflict silent = false
+is-conflict conflict = true
+is-conflict (forced l) = false
+
+abbrev pub in-conflict : State → ℕ → Bool
+in-conflict q k = is-conflict (numbered nobody k (q .sentences) .says (trail (q .rows)))
+
+-- the rows of the table that a call can get, in its order; 9 stands before them at every call
+abbrev pub refusals : State → Call → List Refusal
+refusals q (give l) = refusal 10 (no-atom q l) ∷ refusal 11 (on-trail q (atom l)) ∷ []
+refusals q open-level = refusal 14 (leb (q .levels) (q .level)) ∷ []
+refusals q (take-back k) = refusal 15 (ltb (q .level) k) ∷ []
+refusals q propagate = []
+refusals q (bounds k) = refusal 16 (no-sentence q k) ∷ []
+refusals q (explain l room) =
+    refusal 10 (no-atom q l) ∷ refusal 12 (not (stands q l)) ∷ refusal 13 (was-given q l) ∷ too-short q (explain l room) room ∷ []
+refusals q (explain-conflict k room) =
+    refusal 16 (no-sentence q k) ∷ refusal 17 (not (in-conflict q k)) ∷ too-short q (explain-conflict k room) room ∷ []
+refusals q (origin l room) = refusal 10 (no-atom q l) ∷ refusal 12 (not (stands q l)) ∷ too-short q (origin l room) room ∷ []
+refusals q (list-trail room) = too-short q (list-trail room) room ∷ []
+
+-- ---- effects
+
+-- an answer, and the level and rows after it
+pub record Outcome : Type 0 where
+  pub answer : Answer
+  pub level : ℕ
+  pub rows : List Row
+
+abbrev pub unchanged : State → Answer → Outcome
+unchanged q a = record { answer = a; level = q .level; rows = q .rows }
+
+abbrev pub ended : ℕ → ℕ → Answer
+ended zero n = still n
+ended (suc k) n = clash (suc k) n
+
+abbrev pub effect : State → Call → Outcome
+effect q (give l) = record { answer = done; level = q .level; rows = row l (q .level) 0 ∷ q .rows }
+effect q open-level = record { answer = done; level = suc (q .level); rows = q .rows }
+effect q (take-back k) = record { answer = done; level = k; rows = up-to k (q .rows) }
+effect q propagate =
+    record { answer = ended (propagated q .sentence) (length (propagated q .rows) - length (q .rows)); level = q .level; rows = propagated q .rows }
+effect q (bounds k) =
+    unchanged q (between (numbered nobody k (q .sentences) .least (trail (q .rows))) (numbered nobody k (q .sentences) .greatest (trail (q .rows))))
+effect q (explain l room) = unchanged q (listed (result q (explain l room)))
+effect q (explain-conflict k room) = unchanged q (listed (result q (explain-conflict k room)))
+effect q (origin l room) = unchanged q (listed (result q (origin l room)))
+effect q (list-trail room) = unchanged q (listed (result q (list-trail room)))
+
+-- the first refusal that applies, which changes nothing, and otherwise the effect
+abbrev pub decided : State → List Refusal → Outcome → Outcome
+decided q [] o = o
+decided q (r ∷ rs) o = cond (r .applies) (unchanged q (refused (r .code) (r .value))) (decided q rs o)
+
+unfoldable pub reply : State → Call → Outcome
+reply q x = decided q (refusal 9 (q .broken) ∷ refusals q x) (effect q x)

@@ -1,0 +1,1 @@
+// The book of document 01: definitions and proofs only.

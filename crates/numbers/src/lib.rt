@@ -1,0 +1,1 @@
+// Integers, extended values and biased words: definitions and laws only.
