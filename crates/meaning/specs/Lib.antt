@@ -1,3 +1,4 @@
 pub mod Meaning
 pub mod Merge
 pub mod Computed
+pub mod Examples
