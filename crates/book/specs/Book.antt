@@ -13,7 +13,7 @@ use Rattle.numbers.specs.Extended.{Extended, Direction, up, down}
 use Rattle.meaning.specs.Meaning.{Sentence, Consistent, Furthest, Says, Each, Admissible, place}
 use Rattle.meaning.specs.Merge.{Rule, rule-of, scope}
 use Rattle.meaning.specs.Computed.{extreme, says}
-use Rattle.book.specs.Limits.{Limits}
+use Rattle.types.specs.declared.Limits.{Limits}
 use Rattle.book.specs.Rows.{Row}
 use Rattle.book.specs.Table.{Call, Answer, Judged, State, Outcome, reply}
 

@@ -8,7 +8,8 @@ use lib.IntN.{ℤ, pos}
 use Rattle.numbers.specs.Extended.{Extended, below, at, above}
 use Rattle.meaning.specs.Meaning.{sum, maximum, lower, upper, Sentence}
 use Rattle.meaning.specs.Examples.{minus, _on_, sentence, over-none, m1, m3, m4, m8, m9, m10}
-use Rattle.book.specs.Limits.{Limits, base}
+use Rattle.types.specs.declared.Limits.{Limits}
+use Rattle.types.specs.Limits.{base}
 use Rattle.book.specs.Table.{Call, give, open-level, take-back, propagate, bounds, explain, explain-conflict, origin, list-trail, Answer, refused, done, still, clash, between, listed, Judged}
 use Rattle.book.specs.Book.{JudgesAll, fresh, Counters, Asked, answers}
 

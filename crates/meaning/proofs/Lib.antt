@@ -1,1 +1,7 @@
 pub mod Represents
+pub mod Orders
+pub mod Trails
+pub mod Gather
+pub mod Extremes
+pub mod Verdicts
+pub mod Says

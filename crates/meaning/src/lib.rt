@@ -1,1 +1,1 @@
-// Integers, extended values and biased words: definitions and laws only.
+// What aggregate sentences mean, how their sets are merged and what is computed of them: definitions and proofs only.

@@ -1,0 +1,35 @@
+// The numbers that calls speak of, each a type of its own, so that one given for another is a type error; and the limits.
+ghost use mathlib.Core.Path.{_≡_};
+ghost use Rattle.types.specs.Limits.{base};
+
+// An atom, 1 to N; as a parameter of load, N itself.
+pub struct Atom(pub u64);
+
+// A sentence, counted from 1; 0 where there is none.
+pub struct Sentence(pub u64);
+
+// A level of the trail.
+pub struct Level(pub u64);
+
+// The limits of a caller: atoms, sentences, written entries, written entries in one sentence, and the highest level.
+pub struct Limits {
+    pub atoms: u64,
+    pub sentences: u64,
+    pub entries: u64,
+    pub each: u64,
+    pub levels: u64,
+}
+
+impl Limits {
+    pub fn base() -> Limits
+        ensures { λ r. ⌜ r ≡ base ⌝ }
+    {
+        Limits {
+            atoms: 1024,
+            sentences: 256,
+            entries: 4096,
+            each: 1024,
+            levels: 1024,
+        }
+    }
+}
