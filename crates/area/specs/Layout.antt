@@ -141,7 +141,8 @@ rule-at w n S b = record {
   side = side-of (tag-at w b / 8 % 2);
   bound = unbias (word w (b + 2));
   set = record { constant = constant-of (kind-of (tag-at w b % 8)) (word w (b + 3)); entries = entries-of (entry-words w (entry-at w n S b) (merged-at w b)) };
-  written = written-at w b }
+  written = written-at w b;
+}
 
 -- k sentences from sentence s on
 unfoldable pub rules-from : List ℕ → ℕ → ℕ → ℕ → ℕ → List Rule

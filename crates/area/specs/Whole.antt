@@ -105,7 +105,7 @@ pub record Reasoned (w : List ℕ) (i : ℕ) : Type 0 where
   pub few : row-at w (atoms-of w) i .reason ≤ sentences-of w
   pub given : row-at w (atoms-of w) i .reason ≡ 0 → place-at w (atoms-of w) i ≡ 0
   pub derived : (s : ℕ) → row-at w (atoms-of w) i .reason ≡ suc s
-    → getD (scope (rule-at w (atoms-of w) (sentences-of w) (record-at (atoms-of w) s))) (place-at w (atoms-of w) i) 0 ≡ atom (row-at w (atoms-of w) i .literal)
+      → getD (scope (rule-at w (atoms-of w) (sentences-of w) (record-at (atoms-of w) s))) (place-at w (atoms-of w) i) 0 ≡ atom (row-at w (atoms-of w) i .literal)
 
 -- ---- bounds, unused words, silence
 
@@ -120,9 +120,9 @@ pub record UnusedZero (w : List ℕ) : Type 0 where
   pub literals : (i : ℕ) → length-of w ≤ i → i < atoms-of w → literal-at w (atoms-of w) i ≡ 0
   pub marks : (i : ℕ) → length-of w ≤ i → i < atoms-of w → mark-at w (atoms-of w) i ≡ 0
   pub constants : (s : ℕ) → s < sentences-of w → T (not (mixes (rule-at w (atoms-of w) (sentences-of w) (record-at (atoms-of w) s) .kind)))
-    → word w (record-at (atoms-of w) s + 3) ≡ 0
+      → word w (record-at (atoms-of w) s + 3) ≡ 0
   pub entries : (s i : ℕ) → s < sentences-of w → 2 * merged-at w (record-at (atoms-of w) s) ≤ i → i < 2 * written-at w (record-at (atoms-of w) s)
-    → word w (entry-at w (atoms-of w) (sentences-of w) (record-at (atoms-of w) s) + i) ≡ 0
+      → word w (entry-at w (atoms-of w) (sentences-of w) (record-at (atoms-of w) s) + i) ≡ 0
 
 -- ---- whole
 
@@ -139,4 +139,4 @@ pub record Whole (lim : Limits) (w : List ℕ) (c : Counters) : Type 0 where
   pub unused : UnusedZero w
   -- a sentence not marked as pending has nothing to say
   pub quiet : (s : ℕ) → s < sentences-of w → pending-at w (record-at (atoms-of w) s) ≡ false
-    → says (rule-at w (atoms-of w) (sentences-of w) (record-at (atoms-of w) s)) (trail (rows-of w)) ≡ silent
+      → says (rule-at w (atoms-of w) (sentences-of w) (record-at (atoms-of w) s)) (trail (rows-of w)) ≡ silent

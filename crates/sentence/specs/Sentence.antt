@@ -41,6 +41,10 @@ pub record Evaluable (lim : Limits) (w : List ℕ) (n S b : ℕ) : Type 0 where
   pub kind : tag-at w b % 8 ≤ 4
   pub rule : RuleWhole lim n (rule-at w n S b)
 
+-- for whatever limits
+abbrev pub Ready : List ℕ → ℕ → ℕ → ℕ → Type 0
+Ready w n S b = (lim : Limits) × Evaluable lim w n S b
+
 -- the words of the least and greatest value over every trail that the values show
 pub record ExtremesAre (w : List ℕ) (n S b : ℕ) (r : Extremes) : Type 0 where
   pub least-is : (t : List ℤ) → Shows w n t → r .least ≡ word-of (extreme down (rule-at w n S b) t)

@@ -1,6 +1,5 @@
 // The evaluation of one stored sentence over the stored values: its extremes, and what it says first.
-ghost use Rattle.sentence.specs.Sentence.{Evaluable, ExtremesAre, SaidIs};
-use types::Limits;
+ghost use Rattle.sentence.specs.Sentence.{Ready, ExtremesAre, SaidIs};
 
 // The words of the least and the greatest value.
 pub struct Extremes {
