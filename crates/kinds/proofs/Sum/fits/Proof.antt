@@ -1,0 +1,16 @@
+-- The weight fits: `within` has told of the kind's own range.
+-- Assumes nothing.
+use borrow.Author.Needs.{needs}
+use Rattle.meaning.specs.Meaning.{sum}
+use Rattle.kinds.proofs.Weights.{told-fits}
+use Rattle.kinds.proofs.Sum.fits.Statement.{statement}
+use Rattle.kinds.proofs.Sum.fits.Tie as tie
+
+within-requires : tie.Need-within-requires
+within-requires c κs = search needs
+
+returns : tie.Need-returns
+returns c = told-fits sum (c .before .fits .w) (c .within .ensures)
+
+pub fits-spec : {M : Type 1} → statement M
+fits-spec = tie.close (tie.spec within-requires returns)
