@@ -101,18 +101,17 @@ Rising v [] = Unit {0}
 Rising v (r ∷ rs) = (r .level ≤ v) × Rising (r .level) rs
 
 -- the reason of row i is 0, or the number of a sentence that has the row's atom as head or merged entry, at the stored place
-pub record Reasoned (w : List ℕ) (i : ℕ) : Type 0 where
-  pub few : row-at w (atoms-of w) i .reason ≤ sentences-of w
-  pub given : row-at w (atoms-of w) i .reason ≡ 0 → place-at w (atoms-of w) i ≡ 0
-  pub derived : (s : ℕ) → row-at w (atoms-of w) i .reason ≡ suc s
-      → getD (scope (rule-at w (atoms-of w) (sentences-of w) (record-at (atoms-of w) s))) (place-at w (atoms-of w) i) 0 ≡ atom (row-at w (atoms-of w) i .literal)
+pub record Reasoned (w : List ℕ) (n S i : ℕ) : Type 0 where
+  pub few : row-at w n i .reason ≤ S
+  pub given : row-at w n i .reason ≡ 0 → place-at w n i ≡ 0
+  pub derived : (s : ℕ) → row-at w n i .reason ≡ suc s → getD (scope (rule-at w n S (record-at n s))) (place-at w n i) 0 ≡ atom (row-at w n i .literal)
 
 -- ---- bounds, unused words, silence
 
--- the stored bounds of sentence s match the trail
-pub record BoundsMatch (w : List ℕ) (s : ℕ) : Type 0 where
-  pub least : least-at w (record-at (atoms-of w) s) ≡ word-of (extreme down (rule-at w (atoms-of w) (sentences-of w) (record-at (atoms-of w) s)) (trail (rows-of w)))
-  pub greatest : greatest-at w (record-at (atoms-of w) s) ≡ word-of (extreme up (rule-at w (atoms-of w) (sentences-of w) (record-at (atoms-of w) s)) (trail (rows-of w)))
+-- the stored bounds of the sentence at b match the trail
+pub record BoundsMatch (w : List ℕ) (n S b : ℕ) (t : List ℤ) : Type 0 where
+  pub least : least-at w b ≡ word-of (extreme down (rule-at w n S b) t)
+  pub greatest : greatest-at w b ≡ word-of (extreme up (rule-at w n S b) t)
 
 -- unused words are 0: behind word 0, past the trail, a constant that the kind has not, and room that merging left
 pub record UnusedZero (w : List ℕ) : Type 0 where
@@ -132,8 +131,8 @@ pub record Whole (lim : Limits) (w : List ℕ) (c : Counters) : Type 0 where
   pub trail-right : TrailWhole w
   pub rising : Rising (level-of w) (rows-of w)
   pub level-limit : level-of w ≤ lim .levels
-  pub reasons : (i : ℕ) → i < length-of w → Reasoned w i
-  pub bounds : (s : ℕ) → s < sentences-of w → BoundsMatch w s
+  pub reasons : (i : ℕ) → i < length-of w → Reasoned w (atoms-of w) (sentences-of w) i
+  pub bounds : (s : ℕ) → s < sentences-of w → BoundsMatch w (atoms-of w) (sentences-of w) (record-at (atoms-of w) s) (trail (rows-of w))
   pub length-is : length-of w ≡ c .length-is
   pub level-is : level-of w ≡ c .level-is
   pub unused : UnusedZero w
