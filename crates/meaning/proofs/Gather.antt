@@ -70,7 +70,7 @@ module _ (k : Kind) (σ : Assignment) where
 
 -- ---- the constant
 
-raised-zero : (v : Extended) → raised (pos 0) v ≡ v
+pub raised-zero : (v : Extended) → raised (pos 0) v ≡ v
 raised-zero below = refl
 raised-zero (at z) = ap at (+ℤ-idl z)
 raised-zero above = refl

@@ -1,3 +1,4 @@
+pub mod Checks
 pub mod Represents
 pub mod Orders
 pub mod Trails
@@ -5,3 +6,11 @@ pub mod Gather
 pub mod Extremes
 pub mod Verdicts
 pub mod Says
+pub mod Members
+pub mod MergingLength
+pub mod MergingTurned
+pub mod MergingValue
+pub mod MergingDistinct
+pub mod Merging
+pub mod Tests
+pub mod Examples

@@ -12,6 +12,7 @@ use lib.Dec.{T}
 use Rattle.meaning.specs.Meaning.{atom, Entry, place, Sentence, Consistent, Satisfiable, Conflict, Forced, Open, Said, silent, conflict, forced, Quiet, FirstForced, Says, Each}
 use Rattle.meaning.specs.Merge.{Merged, rule-with, places, scope}
 use Rattle.meaning.specs.Computed.{refuted, due, first-due, says}
+use Rattle.meaning.proofs.Members.{places-each}
 use Rattle.meaning.proofs.Represents.{Off, Represents}
 use Rattle.meaning.proofs.Orders.{T-true, T-false}
 use Rattle.meaning.proofs.Trails.{opposite-atom, two-literals, literal-unique}
@@ -27,10 +28,6 @@ scanned-later : (s : Sentence) (t : List ℤ) (a : ℕ) (rest : List ℕ) (x : S
 scanned-later s t a rest silent q h = (q, h)
 scanned-later s t a rest conflict q h = h
 scanned-later s t a rest (forced l) q h = inr (q, h)
-
-places-positive : (es : List Entry) → Each (λ e. 1 ≤ place e) es → Each (λ a. 1 ≤ a) (places es)
-places-positive [] h = tt
-places-positive (e ∷ es) h = (h .0, places-positive es (h .1))
 
 quiet-or-off : (s : Sentence) (t : List ℤ) (a : ℕ) (es : List Entry) → Each (Quiet s t) (places es) → Quiet s t a ⊎ Off a es
 quiet-or-off s t a [] h = inr tt
@@ -94,7 +91,7 @@ says-right s m t p n c = go (refuted (rule-with s m) t) refl
     go false e =
         scanned-says s m t p c (first-due (rule-with s m) t (scope (rule-with s m)))
         (satisfiable-test s m t p c (T-false e))
-        (first-due-right s m t p c (scope (rule-with s m)) (n, places-positive (m .entries) (p .literals)))
+        (first-due-right s m t p c (scope (rule-with s m)) (n, places-each (λ a. 1 ≤ a) (m .entries) (p .literals)))
 
 -- ---- what a sentence says first is one answer
 
