@@ -10,7 +10,7 @@ use Rattle.meaning.specs.Meaning.{sum, maximum, lower, upper, Sentence}
 use Rattle.meaning.specs.Examples.{minus, _on_, sentence, over-none, m1, m3, m4, m8, m9, m10}
 use Rattle.types.specs.declared.Limits.{Limits}
 use Rattle.types.specs.Limits.{base}
-use Rattle.book.specs.Table.{Call, give, open-level, take-back, propagate, bounds, explain, explain-conflict, origin, list-trail, Answer, refused, done, still, clash, between, listed, Judged}
+use Rattle.book.specs.Table.{Call, give, open-level, take-back, propagate, bounds, explain, explain-conflict, origin, list-trail, Answer, refused, done, still, clash, between, listed, Paper, paper, list-after, Judged}
 use Rattle.book.specs.Book.{JudgesAll, fresh, Counters, Asked, answers}
 
 pub record Turn : Type 0 where
@@ -131,3 +131,30 @@ refusing = record {
 abbrev pub stories : List Story
 stories =
     story-1 ∷ story-2 ∷ story-3 ∷ story-4 ∷ story-5 ∷ story-6 ∷ story-7 ∷ story-8 ∷ story-9 ∷ story-10 ∷ story-11 ∷ story-12 ∷ refusing ∷ []
+
+-- ---- the paper's numbers for each kind of answer, and the lent list after it
+
+pub record Printed : Type 0 where
+  pub answer : Answer
+  pub printed : Paper
+  pub before : List ℤ
+  pub afterwards : List ℤ
+
+abbrev pub prints : Answer → (code value sentence least-mark : ℕ) → ℤ → ℕ → ℤ → List ℤ → List ℤ → Printed
+prints a c n k lm l gm g old new =
+    record { answer = a; printed = record { code = c; value = n; sentence = k; least-mark = lm; least = l; greatest-mark = gm; greatest = g }; before = old; afterwards = new }
+
+abbrev pub printings : List Printed
+printings =
+    prints (refused 18 3) 18 3 0 0 (pos 0) 0 (pos 0) (pos 7 ∷ []) (pos 7 ∷ [])
+    ∷ prints done 0 0 0 0 (pos 0) 0 (pos 0) [] []
+    ∷ prints (still 2) 0 2 0 0 (pos 0) 0 (pos 0) [] []
+    ∷ prints (clash 4 1) 0 1 4 0 (pos 0) 0 (pos 0) [] []
+    ∷ prints (between (at (minus 5)) (at (pos 5))) 0 0 0 0 (minus 5) 0 (pos 5) [] []
+    ∷ prints (between below (at (pos 9))) 0 0 0 1 (pos 0) 0 (pos 9) [] []
+    ∷ prints (between (at (pos 8)) above) 0 0 0 0 (pos 8) 2 (pos 0) [] []
+    ∷ prints (listed (minus 2 ∷ minus 3 ∷ [])) 0 2 0 0 (pos 0) 0 (pos 0) (pos 7 ∷ pos 8 ∷ pos 9 ∷ []) (minus 2 ∷ minus 3 ∷ pos 9 ∷ [])
+    ∷ []
+
+abbrev pub Rightly : Printed → Type 0
+Rightly x = (paper (x .answer) ≡ x .printed) × (list-after (x .answer) (x .before) ≡ x .afterwards)

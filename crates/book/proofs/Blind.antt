@@ -1,0 +1,172 @@
+-- A sentence is blind outside its scope: whether it is satisfied depends only on its head and its merged entries' atoms, since the
+-- merged set has its value. So a satisfying assignment that gives the trail's literals of the scope can be turned to the whole trail.
+-- Assumes nothing.
+use mathlib.Core.Path.{_≡_, refl, sym, _∙_, ap, ap₂, subst}
+use mathlib.Core.Bool.{Bool, true, false, cond}
+use mathlib.Core.Logic.{_⊎_, inl, inr}
+use mathlib.Core.List.{List, [], _∷_}
+use Prim.Native.Nat.{ℕ}
+use native.Mathlib.Decide.{ℕ-discrete}
+use lib.IntN.{ℤ}
+use lib.Dec.{T, eqb, eqb→eq, eqb-refl}
+use Rattle.meaning.specs.Meaning.{Assignment, atom, truth, holds, Entry, chosen, aggregate, comparison, Sentence, value, Satisfied, Agrees, Consistent, Conflict, Forced, On}
+use Rattle.meaning.specs.Merge.{raised, merged-value, rule-of, places, scope}
+use Rattle.meaning.proofs.Represents.{Represents}
+use Rattle.book.specs.Rows.{pick, causes}
+use Rattle.meaning.proofs.Trails.{truth-wanted, agrees-from}
+use Rattle.book.proofs.Number.{In}
+use Rattle.book.proofs.Tests.{Among}
+
+abbrev pub Blind : Sentence → Type 0
+Blind s = (σ σ′ : Assignment) → ((a : ℕ) → In a (scope (rule-of s)) → σ′ a ≡ σ a) → Satisfied σ s → Satisfied σ′ s
+
+-- ---- where the merged set has the sentence's value
+
+chosen-same : (σ σ′ : Assignment) (es : List Entry) → ((a : ℕ) → In a (places es) → σ′ a ≡ σ a) → chosen σ′ es ≡ chosen σ es
+chosen-same σ σ′ [] same = refl
+chosen-same σ σ′ (e ∷ es) same =
+    ap₂ (λ b ws. cond (truth (e .literal) b) (e .weight ∷ ws) ws) (same (atom (e .literal)) (inl refl)) (chosen-same σ σ′ es (λ a h. same a (inr h)))
+
+pub represents-blind : (s : Sentence) → Represents s (rule-of s .set) → Blind s
+unfolding merged-value
+represents-blind s m σ σ′ same h = same (s .head) (inl refl) ∙ h ∙ ap (comparison (s .side) (s .bound)) (sym values)
+  where
+    values : value s σ′ ≡ value s σ
+    values =
+        m .same-value σ′
+        ∙ ap (λ ws. raised (rule-of s .set .constant) (aggregate (s .kind) ws)) (chosen-same σ σ′ (rule-of s .set .entries) (λ a h. same a (inr h)))
+        ∙ sym (m .same-value σ)
+
+-- ---- the causes: the trail's literals of some atoms
+
+record Found (a : ℕ) (t ls : List ℤ) : Type 0 where
+  pub literal : ℤ
+  pub there : Among literal ls
+  pub on : Among literal t
+  pub is : atom literal ≡ a
+
+pick-keeps : (t : List ℤ) (a : ℕ) (rest : List ℤ) (m : ℤ) → Among m rest → Among m (pick t a rest)
+unfolding pick
+pick-keeps [] a rest m h = h
+pick-keeps (l ∷ t) a rest m h = go (eqb (atom l) a) (pick-keeps t a rest m h)
+  where
+    go : (b : Bool) → Among m (pick t a rest) → Among m (cond b (l ∷ rest) (pick t a rest))
+    go true ih = inr h
+    go false ih = ih
+
+pick-finds : (t : List ℤ) (a : ℕ) (rest : List ℤ) → On a t → Found a t (pick t a rest)
+unfolding pick
+pick-finds [] a rest o = absurd o
+pick-finds (l ∷ t) a rest o =
+    go (eqb (atom l) a) (λ y. eqb→eq (atom l) a y) (λ e. subst (λ x. T (eqb (atom l) x)) e (eqb-refl (atom l))) o (λ k. pick-finds t a rest k)
+  where
+    go : (b : Bool) → (T b → atom l ≡ a) → (atom l ≡ a → T b) → (atom l ≡ a) ⊎ On a t → (On a t → Found a t (pick t a rest)) → Found a (l ∷ t) (cond b (l ∷ rest) (pick t a rest))
+    go true y z o ih = record { literal = l; there = inl refl; on = inl refl; is = y tt }
+    go false y z (inl q) ih = absurd (z q)
+    go false y z (inr k) ih = let x = ih k in record { literal = x .literal; there = x .there; on = inr (x .on); is = x .is }
+
+pick-from : (t : List ℤ) (a : ℕ) (rest : List ℤ) (m : ℤ) → Among m (pick t a rest) → Among m t ⊎ Among m rest
+unfolding pick
+pick-from [] a rest m h = inr h
+pick-from (l ∷ t) a rest m h = go (eqb (atom l) a) h (λ k. pick-from t a rest m k)
+  where
+    wider : Among m t ⊎ Among m rest → Among m (l ∷ t) ⊎ Among m rest
+    wider (inl x) = inl (inr x)
+    wider (inr x) = inr x
+
+    go : (b : Bool) → Among m (cond b (l ∷ rest) (pick t a rest)) → (Among m (pick t a rest) → Among m t ⊎ Among m rest) → Among m (l ∷ t) ⊎ Among m rest
+    go true (inl e) ih = inl (inl e)
+    go true (inr k) ih = inr k
+    go false k ih = wider (ih k)
+
+causes-find : (t : List ℤ) (a : ℕ) (sc : List ℕ) → In a sc → On a t → Found a t (causes t sc)
+unfolding causes
+causes-find t a [] h o = absurd h
+causes-find t a (b ∷ bs) (inl e) o = subst (λ x. Found x t (pick t b (causes t bs))) e (pick-finds t b (causes t bs) (subst (λ x. On x t) (sym e) o))
+causes-find t a (b ∷ bs) (inr h) o =
+    let x = causes-find t a bs h o in
+    record { literal = x .literal; there = pick-keeps t b (causes t bs) (x .literal) (x .there); on = x .on; is = x .is }
+
+pub causes-from : (t : List ℤ) (sc : List ℕ) (m : ℤ) → Among m (causes t sc) → Among m t
+unfolding causes
+causes-from t [] m h = absurd h
+causes-from t (b ∷ bs) m h = go (pick-from t b (causes t bs) m h) (λ k. causes-from t bs m k)
+  where
+    go : Among m t ⊎ Among m (causes t bs) → (Among m (causes t bs) → Among m t) → Among m t
+    go (inl x) ih = x
+    go (inr x) ih = ih x
+
+-- ---- an assignment turned to the trail
+
+pub agrees-each : (σ : Assignment) (ls : List ℤ) (l : ℤ) → Agrees σ ls → Among l ls → holds σ l ≡ true
+agrees-each σ [] l g h = absurd h
+agrees-each σ (x ∷ xs) l g (inl e) = ap (holds σ) e ∙ g .0
+agrees-each σ (x ∷ xs) l g (inr h) = agrees-each σ xs l (g .1) h
+
+pub each-agrees : (σ : Assignment) (ls : List ℤ) → ((l : ℤ) → Among l ls → holds σ l ≡ true) → Agrees σ ls
+each-agrees σ [] g = tt
+each-agrees σ (x ∷ xs) g = (g x (inl refl), each-agrees σ xs (λ l h. g l (inr h)))
+
+in-or-out : (a : ℕ) (bs : List ℕ) → In a bs ⊎ ¬ (In a bs)
+in-or-out a [] = inr (λ h. h)
+in-or-out a (b ∷ bs) = go (ℕ-discrete b a) (in-or-out a bs)
+  where
+    neither : ¬ (b ≡ a) → ¬ (In a bs) → ¬ (In a (b ∷ bs))
+    neither n m (inl e) = n e
+    neither n m (inr h) = m h
+
+    go : Dec (b ≡ a) → In a bs ⊎ ¬ (In a bs) → In a (b ∷ bs) ⊎ ¬ (In a (b ∷ bs))
+    go (yes e) r = inl (inl e)
+    go (no n) (inl r) = inl (inr r)
+    go (no n) (inr r) = inr (neither n r)
+
+module _ (sc : List ℕ) where
+  abbrev choose : (a : ℕ) → In a sc ⊎ ¬ (In a sc) → Bool → Bool → Bool
+  choose a (inl h) x y = x
+  choose a (inr h) x y = y
+
+  -- σ on the scope, and τ elsewhere
+  abbrev mixed : Assignment → Assignment → Assignment
+  mixed σ τ a = choose a (in-or-out a sc) (σ a) (τ a)
+
+  mixed-in : (σ τ : Assignment) (a : ℕ) → In a sc → mixed σ τ a ≡ σ a
+  mixed-in σ τ a h = go (in-or-out a sc)
+    where
+      go : (x : In a sc ⊎ ¬ (In a sc)) → choose a x (σ a) (τ a) ≡ σ a
+      go (inl k) = refl
+      go (inr k) = absurd (k h)
+
+  mixed-same : (σ τ : Assignment) (a : ℕ) → (In a sc → σ a ≡ τ a) → mixed σ τ a ≡ τ a
+  mixed-same σ τ a h = go (in-or-out a sc)
+    where
+      go : (x : In a sc ⊎ ¬ (In a sc)) → choose a x (σ a) (τ a) ≡ τ a
+      go (inl k) = h k
+      go (inr k) = refl
+
+module _ (s : Sentence) (blind : Blind s) (t : List ℤ) (c : Consistent t) (σ : Assignment) (sat : Satisfied σ s) (g : Agrees σ (causes t (scope (rule-of s)))) where
+  abbrev sc : List ℕ
+  sc = scope (rule-of s)
+
+  abbrev turned : Assignment
+  turned = mixed sc σ (c .0)
+
+  on-trail : (a : ℕ) → On a t → In a sc → σ a ≡ c .0 a
+  on-trail a o h =
+      let x = causes-find t a sc h o in
+      let k = x .literal in
+      ap σ (sym (x .is)) ∙ truth-wanted k (σ (atom k)) (agrees-each σ (causes t sc) k g (x .there))
+      ∙ sym (truth-wanted k (c .0 (atom k)) (agrees-each (c .0) t k (c .1) (x .on))) ∙ ap (c .0) (x .is)
+
+  turned-agrees : Agrees turned t
+  turned-agrees = agrees-from (c .0) turned t (λ a o. mixed-same sc σ (c .0) a (λ h. on-trail a o h)) (c .1)
+
+  turned-satisfied : Satisfied turned s
+  turned-satisfied = blind σ turned (λ a h. mixed-in sc σ (c .0) a h) sat
+
+  -- a forced literal of the scope follows from the sentence and the causes alone
+  pub forced-by-causes : (l : ℤ) → In (atom l) sc → Forced s t l → holds σ l ≡ true
+  forced-by-causes l inside f = ap (truth l) (sym (mixed-in sc σ (c .0) (atom l) inside)) ∙ f turned turned-agrees turned-satisfied
+
+  -- and so does a conflict
+  pub conflict-by-causes : Conflict s t → ⊥
+  conflict-by-causes f = f turned turned-agrees turned-satisfied

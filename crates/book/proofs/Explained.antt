@@ -1,0 +1,170 @@
+-- An explanation is a clause that its sentence alone entails: an assignment that satisfies the sentence gives the literal, or makes a
+-- cause false. The causes stand on the trail, so the clause's other literals are false there.
+-- Assumes nothing.
+use mathlib.Core.Path.{_≡_, refl, sym, _∙_, ap, subst}
+use mathlib.Core.Bool.{Bool, true, false, not, cond}
+use mathlib.Core.Logic.{_⊎_, inl, inr}
+use mathlib.Core.List.{List, [], _∷_, map}
+use Prim.Native.Nat.{ℕ, zero, suc, _≤_}
+use native.Mathlib.Omega.{arith}
+use lib.IntN.{ℤ, pos, negsuc, negℤ, negℤ-negℤ}
+use lib.Dec.{T}
+use Rattle.meaning.specs.Meaning.{Assignment, atom, truth, holds, same, Sentence, Satisfied, Agrees, Consistent, Conflict, Forced, Each}
+use Rattle.meaning.specs.Merge.{rule-of, scope}
+use Rattle.book.specs.Rows.{Row, trail, causes, Standpoint, row-of, numbered, explanation, conflict-explanation}
+use Rattle.book.specs.Table.{Judged, scopes}
+use Rattle.book.specs.Book.{JudgesAll}
+use Rattle.meaning.proofs.Trails.{opposite-holds}
+use Rattle.meaning.proofs.Members.{same→eq, eq→same}
+use Rattle.book.proofs.Number.{IsNumber, numbered-each, In}
+use Rattle.book.proofs.Tests.{Among}
+use Rattle.book.proofs.Sound.{Reasoned, Sits, Sound, consistent}
+use Rattle.book.proofs.Blind.{Blind, causes-from, forced-by-causes, conflict-by-causes}
+
+-- some element has the property
+module _ {A : Type 0} (P : A → Type 0) where
+  abbrev pub Some : List A → Type 0
+  Some [] = ⊥
+  Some (x ∷ xs) = P x ⊎ Some xs
+
+-- the clause is entailed by the sentence alone
+abbrev pub EntailedBy : Sentence → List ℤ → Type 0
+EntailedBy s ls = (σ : Assignment) → Satisfied σ s → Some (λ m. holds σ m ≡ true) ls
+
+-- every literal of the list is false on the trail
+abbrev pub AllFalse : List ℤ → List ℤ → Type 0
+AllFalse t ls = Each (λ m. Among (negℤ m) t) ls
+
+-- ---- negations
+
+-- all hold, or the negation of one does
+all-or-some : (σ : Assignment) (ls : List ℤ) → ((l : ℤ) → Among l ls → 1 ≤ atom l) → Agrees σ ls ⊎ Some (λ m. holds σ m ≡ true) (map negℤ ls)
+all-or-some σ [] p = inl tt
+all-or-some σ (x ∷ xs) p = go (holds σ x) refl (all-or-some σ xs (λ l h. p l (inr h)))
+  where
+    go : (b : Bool) → holds σ x ≡ b → Agrees σ xs ⊎ Some (λ m. holds σ m ≡ true) (map negℤ xs) → Agrees σ (x ∷ xs) ⊎ Some (λ m. holds σ m ≡ true) (map negℤ (x ∷ xs))
+    go true e (inl g) = inl (e, g)
+    go true e (inr h) = inr (inr h)
+    go false e r = inr (inl (opposite-holds x (p x (inl refl)) σ ∙ ap not e))
+
+causes-false : (t ls : List ℤ) → ((m : ℤ) → Among m ls → Among m t) → AllFalse t (map negℤ ls)
+causes-false t [] f = tt
+causes-false t (x ∷ xs) f = (subst (λ m. Among m t) (sym (negℤ-negℤ x)) (f x (inl refl)), causes-false t xs (λ m h. f m (inr h)))
+
+-- ---- the two clauses, over the trail's literals of the scope
+
+module _ (s : Sentence) (blind : Blind s) (t : List ℤ) (c : Consistent t) (literals : (l : ℤ) → Among l t → 1 ≤ atom l) where
+  abbrev reasons : List ℤ
+  reasons = causes t (scope (rule-of s))
+
+  decide : (σ : Assignment) → Agrees σ reasons ⊎ Some (λ m. holds σ m ≡ true) (map negℤ reasons)
+  decide σ = all-or-some σ reasons (λ l a. literals l (causes-from t (scope (rule-of s)) l a))
+
+  conflict-clause : Conflict s t → EntailedBy s (map negℤ reasons)
+  conflict-clause no-way σ sat = go (decide σ)
+    where
+      go : Agrees σ reasons ⊎ Some (λ m. holds σ m ≡ true) (map negℤ reasons) → Some (λ m. holds σ m ≡ true) (map negℤ reasons)
+      go (inl g) = absurd (conflict-by-causes s blind t c σ sat g no-way)
+      go (inr x) = x
+
+  derived-clause : (l : ℤ) → In (atom l) (scope (rule-of s)) → Forced s t l → EntailedBy s (l ∷ map negℤ reasons)
+  derived-clause l inside f σ sat = go (decide σ)
+    where
+      go : Agrees σ reasons ⊎ Some (λ m. holds σ m ≡ true) (map negℤ reasons) → Some (λ m. holds σ m ≡ true) (l ∷ map negℤ reasons)
+      go (inl g) = inl (forced-by-causes s blind t c σ sat g l inside f)
+      go (inr x) = inr x
+
+-- ---- the row of a literal
+
+module _ (n : ℕ) (ss : List Sentence) where
+  record RowSound (l : ℤ) (p : Standpoint) : Type 0 where
+    pub literal-is : p .mine .literal ≡ l
+    pub level : ℕ
+    pub sits : Sits n ss level (p .mine) (p .before)
+    pub sound : Sound n ss (p .mine .level) (p .before)
+
+  row-of-sound : (v : ℕ) (rs : List Row) (l : ℤ) → Sound n ss v rs → Among l (trail rs) → RowSound l (row-of l rs)
+  unfolding row-of
+  row-of-sound v [] l h a = absurd a
+  row-of-sound v (r ∷ rs) l h a =
+      go (same (r .literal) l) (λ y. same→eq (r .literal) l y) (λ e. subst (λ x. T (same (r .literal) x)) (sym e) (eq→same (r .literal) (r .literal) refl)) a (λ k. row-of-sound (r .level) rs l (h .1) k)
+    where
+      go : (b : Bool) → (T b → r .literal ≡ l) → (l ≡ r .literal → T b) → (l ≡ r .literal) ⊎ Among l (trail rs) → (Among l (trail rs) → RowSound l (row-of l rs))
+          → RowSound l (cond b (record { mine = r; before = rs }) (row-of l rs))
+      go true y z a ih = record { literal-is = y tt; level = v; sits = h .0; sound = h .1 }
+      go false y z (inl e) ih = absurd (z e)
+      go false y z (inr k) ih = ih k
+
+  trail-within : (v : ℕ) (rs : List Row) (l : ℤ) → Sound n ss v rs → Among l (trail rs) → 1 ≤ atom l
+  trail-within v [] l h a = absurd a
+  trail-within v (r ∷ rs) l h (inl e) = subst (λ x. 1 ≤ atom x) (sym e) (h .0 .atom-within .0)
+  trail-within v (r ∷ rs) l h (inr k) = trail-within (r .level) rs l (h .1) k
+
+pub scope-numbered : (k : ℕ) (ss : List Sentence) (js : List Judged) (s : Sentence) → JudgesAll ss js → IsNumber k ss s → numbered [] k (scopes js) ≡ scope (rule-of s)
+unfolding numbered
+scope-numbered k [] js s m h = absurd h
+scope-numbered zero (x ∷ ss) js s m h = absurd h
+scope-numbered (suc k) (x ∷ ss) [] s m h = absurd m
+scope-numbered (suc zero) (x ∷ ss) (j ∷ js) s m h = m .0 .scope-is ∙ ap (λ y. scope (rule-of y)) h
+scope-numbered (suc (suc k)) (x ∷ ss) (j ∷ js) s m h = scope-numbered (suc k) ss js s (m .1) h
+
+-- ---- explanations
+
+-- a derived literal's explanation: a clause of its reason, whose other literals are false before the literal
+pub record Explains (ss : List Sentence) (rows : List Row) (l : ℤ) (named : List ℤ) : Type 0 where
+  pub sentence : Sentence
+  pub number : IsNumber (row-of l rows .mine .reason) ss sentence
+  pub entailed : EntailedBy sentence named
+  pub others : List ℤ
+  pub list-is : named ≡ l ∷ others
+  pub others-false : AllFalse (trail (row-of l rows .before)) others
+
+-- a conflict's: a clause of the sentence, whose literals are all false
+pub record ExplainsConflict (ss : List Sentence) (rows : List Row) (k : ℕ) (named : List ℤ) : Type 0 where
+  pub sentence : Sentence
+  pub number : IsNumber k ss sentence
+  pub entailed : EntailedBy sentence named
+  pub literals-false : AllFalse (trail rows) named
+
+module _ (n : ℕ) (ss : List Sentence) (js : List Judged) (blind : Each Blind ss) (m : JudgesAll ss js) (v : ℕ) (rows : List Row) (h : Sound n ss v rows) where
+  pub conflict-explained : (k : ℕ) (s : Sentence) → IsNumber k ss s → Conflict s (trail rows) → ExplainsConflict ss rows k (conflict-explanation (scopes js) rows k)
+  conflict-explained k s num c = record {
+    sentence = s;
+    number = num;
+    entailed = subst (λ sc. EntailedBy s (map negℤ (causes (trail rows) sc))) (sym (scope-numbered k ss js s m num))
+        (conflict-clause s (numbered-each Blind k ss s num blind) (trail rows) (consistent n ss v rows h) (λ l a. trail-within n ss v rows l h a) c);
+    literals-false = causes-false (trail rows) (causes (trail rows) (numbered [] k (scopes js))) (λ x a. causes-from (trail rows) (numbered [] k (scopes js)) x a);
+  }
+
+  module _ (l : ℤ) (a : Among l (trail rows)) where
+    abbrev mine : Row
+    mine = row-of l rows .mine
+
+    abbrev before : List Row
+    before = row-of l rows .before
+
+    abbrev others-of : List ℕ → List ℤ
+    others-of sc = map negℤ (causes (trail before) sc)
+
+    reasoned-clause : Reasoned n ss mine before → Explains ss rows l (explanation (scopes js) rows l)
+    reasoned-clause z =
+        let x = row-of-sound n ss v rows l h a in
+        record {
+          sentence = z .sentence;
+          number = z .number;
+          entailed = subst (λ sc. EntailedBy (z .sentence) (l ∷ others-of sc)) (sym (scope-numbered (mine .reason) ss js (z .sentence) m (z .number)))
+              (subst (λ k. EntailedBy (z .sentence) (k ∷ others-of (scope (rule-of (z .sentence))))) (x .literal-is)
+              (derived-clause (z .sentence) (numbered-each Blind (mine .reason) ss (z .sentence) (z .number) blind) (trail before)
+              (consistent n ss (mine .level) before (x .sound)) (λ k i. trail-within n ss (mine .level) before k (x .sound) i) (mine .literal) (z .inside) (z .forces)));
+          others = others-of (numbered [] (mine .reason) (scopes js));
+          list-is = refl;
+          others-false = causes-false (trail before) (causes (trail before) (numbered [] (mine .reason) (scopes js)))
+              (λ y k. causes-from (trail before) (numbered [] (mine .reason) (scopes js)) y k);
+        }
+
+    pub explained : ¬ (row-of l rows .mine .reason ≡ 0) → Explains ss rows l (explanation (scopes js) rows l)
+    explained given = go (row-of-sound n ss v rows l h a .sits .reason-is)
+      where
+        go : (mine .reason ≡ 0) ⊎ Reasoned n ss mine before → Explains ss rows l (explanation (scopes js) rows l)
+        go (inl z) = absurd (given z)
+        go (inr z) = reasoned-clause z

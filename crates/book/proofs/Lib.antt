@@ -1,0 +1,17 @@
+pub mod Checks
+pub mod Number
+pub mod Inside
+pub mod Speech
+pub mod Sound
+pub mod Few
+pub mod Tests
+pub mod Keeps
+pub mod Same
+pub mod Run
+pub mod Blind
+pub mod Explained
+pub mod InOrder
+pub mod Origins
+pub mod Reports
+pub mod Judged
+pub mod Examples

@@ -1,0 +1,70 @@
+-- The elements of a list by their numbers, counted from 1, and the atoms of a list. Each judgement has its sentence's number.
+-- Assumes nothing.
+use mathlib.Core.Path.{_≡_, refl, sym, _∙_, subst}
+use mathlib.Core.Logic.{_⊎_, inl, inr}
+use mathlib.Core.List.{List, [], _∷_}
+use Prim.Native.Nat.{ℕ, zero, suc, _≤_}
+use native.Mathlib.Omega.{arith}
+use lib.ListN.{length}
+use Rattle.meaning.specs.Meaning.{Sentence, Each}
+use Rattle.book.specs.Rows.{numbered}
+use Rattle.book.specs.Table.{Judged}
+use Rattle.book.specs.Book.{Judges, JudgesAll}
+
+-- x is number k of the list
+module _ {A : Type 0} where
+  abbrev pub IsNumber : ℕ → List A → A → Type 0
+  IsNumber k [] x = ⊥
+  IsNumber zero (y ∷ ys) x = ⊥
+  IsNumber (suc zero) (y ∷ ys) x = y ≡ x
+  IsNumber (suc (suc k)) (y ∷ ys) x = IsNumber (suc k) ys x
+
+  pub numbered-one : (k : ℕ) (xs : List A) (x y : A) → IsNumber k xs x → IsNumber k xs y → x ≡ y
+  numbered-one k [] x y h g = absurd h
+  numbered-one zero (z ∷ zs) x y h g = absurd h
+  numbered-one (suc zero) (z ∷ zs) x y h g = sym h ∙ g
+  numbered-one (suc (suc k)) (z ∷ zs) x y h g = numbered-one (suc k) zs x y h g
+
+  pub numbered-each : (P : A → Type 0) (k : ℕ) (xs : List A) (x : A) → IsNumber k xs x → Each P xs → P x
+  numbered-each P k [] x h e = absurd h
+  numbered-each P zero (z ∷ zs) x h e = absurd h
+  numbered-each P (suc zero) (z ∷ zs) x h e = subst P h (e .0)
+  numbered-each P (suc (suc k)) (z ∷ zs) x h e = numbered-each P (suc k) zs x h (e .1)
+
+  pub numbered-positive : (k : ℕ) (xs : List A) (x : A) → IsNumber k xs x → 1 ≤ k
+  numbered-positive k [] x h = absurd h
+  numbered-positive zero (z ∷ zs) x h = absurd h
+  numbered-positive (suc k) (z ∷ zs) x h = omega arith
+
+  pub numbered-exists : (k : ℕ) (xs : List A) → 1 ≤ k → k ≤ length xs → (x : A) × IsNumber k xs x
+  numbered-exists k [] p q = absurd (omega (arith, p, q))
+  numbered-exists zero (z ∷ zs) p q = absurd (omega (arith, p))
+  numbered-exists (suc zero) (z ∷ zs) p q = (z, refl)
+  numbered-exists (suc (suc k)) (z ∷ zs) p q = numbered-exists (suc k) zs (omega arith) (omega (arith, q))
+
+-- ---- judgements
+
+pub judges-numbered : (none : Judged) (k : ℕ) (ss : List Sentence) (js : List Judged) (s : Sentence) → JudgesAll ss js → IsNumber k ss s → Judges s (numbered none k js)
+unfolding numbered
+judges-numbered none k [] js s m h = absurd h
+judges-numbered none zero (x ∷ ss) js s m h = absurd h
+judges-numbered none (suc k) (x ∷ ss) [] s m h = absurd m
+judges-numbered none (suc zero) (x ∷ ss) (j ∷ js) s m h = subst (λ y. Judges y j) h (m .0)
+judges-numbered none (suc (suc k)) (x ∷ ss) (j ∷ js) s m h = judges-numbered none (suc k) ss js s (m .1) h
+
+pub judges-length : (ss : List Sentence) (js : List Judged) → JudgesAll ss js → length ss ≡ length js
+judges-length [] [] m = refl
+judges-length [] (j ∷ js) m = absurd m
+judges-length (s ∷ ss) [] m = absurd m
+judges-length (s ∷ ss) (j ∷ js) m = let e = judges-length ss js (m .1) in omega (arith, e)
+
+-- ---- atoms of a list
+
+abbrev pub In : ℕ → List ℕ → Type 0
+In a [] = ⊥
+In a (b ∷ bs) = (b ≡ a) ⊎ In a bs
+
+pub in-each : (P : ℕ → Type 0) (a : ℕ) (bs : List ℕ) → In a bs → Each P bs → P a
+in-each P a [] h e = absurd h
+in-each P a (b ∷ bs) (inl q) e = subst P q (e .0)
+in-each P a (b ∷ bs) (inr r) e = in-each P a bs r (e .1)

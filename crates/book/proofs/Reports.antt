@@ -1,0 +1,131 @@
+-- What the book's reports mean: the lists that explain, explain-conflict and origin hand back, and the two bounds. A report that is not
+-- refused has passed the table's tests, and these give what the theorems on rows ask for.
+-- Assumes nothing.
+use mathlib.Core.Path.{_≡_, refl, sym, subst}
+use mathlib.Core.Bool.{Bool, true, false, not}
+use mathlib.Core.List.{List}
+use Prim.Native.Nat.{ℕ, zero, suc, _-_, _≤_}
+use native.Mathlib.Omega.{arith}
+use lib.ListN.{length}
+use lib.IntN.{ℤ}
+use lib.Dec.{T, leb, leb→le, T-not}
+use borrow.Author.Tests.{eq-eqb}
+use Rattle.numbers.specs.Extended.{Extended, up, down}
+use Rattle.meaning.specs.Meaning.{Sentence, Consistent, Furthest, Conflict, Said, silent, conflict, forced, Says, Each}
+use Rattle.types.specs.declared.Limits.{Limits}
+use Rattle.book.specs.Rows.{trail, row-of, numbered}
+use Rattle.book.specs.Table.{Call, give, open-level, take-back, propagate, bounds, explain, explain-conflict, origin, list-trail, between, listed, Judged, State, nobody, propagated, result, no-sentence, stands, was-given, in-conflict, is-conflict, refusals, ended, effect, reply}
+use Rattle.book.specs.Book.{JudgesAll, Book, Counters, book-state}
+use Rattle.meaning.proofs.Orders.{T-true}
+use Rattle.book.proofs.Number.{IsNumber, numbered-exists, judges-numbered, judges-length}
+use Rattle.book.proofs.Tests.{stands-told, both-told, Passed, reply-is}
+use Rattle.book.proofs.Sound.{consistent}
+use Rattle.book.proofs.Keeps.{SoundBook}
+use Rattle.book.proofs.Blind.{Blind}
+use Rattle.book.proofs.Explained.{Explains, ExplainsConflict, explained, conflict-explained}
+use Rattle.book.proofs.Origins.{OriginList, originates}
+
+-- ---- the answer of a report
+
+ended-lists-nothing : (k n : ℕ) (ls : List ℤ) → ended k n ≡ listed ls → ⊥
+ended-lists-nothing zero n ls e = let z : _≡_ {A = ℕ} 0 1 = cc in omega arith
+ended-lists-nothing (suc k) n ls e = let z : _≡_ {A = ℕ} 0 1 = cc in omega arith
+
+effect-listed : (q : State) (x : Call) (ls : List ℤ) → effect q x .answer ≡ listed ls → result q x ≡ ls
+effect-listed q (give l) ls e = let z : _≡_ {A = ℕ} 0 1 = cc in absurd (omega arith)
+effect-listed q open-level ls e = let z : _≡_ {A = ℕ} 0 1 = cc in absurd (omega arith)
+effect-listed q (take-back k) ls e = let z : _≡_ {A = ℕ} 0 1 = cc in absurd (omega arith)
+effect-listed q propagate ls e = absurd (ended-lists-nothing (propagated q .sentence) (length (propagated q .rows) - length (q .rows)) ls e)
+effect-listed q (bounds k) ls e = let z : _≡_ {A = ℕ} 0 1 = cc in absurd (omega arith)
+effect-listed q (explain l room) ls e = cc
+effect-listed q (explain-conflict k room) ls e = cc
+effect-listed q (origin l room) ls e = cc
+effect-listed q (list-trail room) ls e = cc
+
+-- a list is handed back only where no refusal applies, and it is the call's
+pub listed-is : (q : State) (x : Call) (ls : List ℤ) → reply q x .answer ≡ listed ls → Passed (refusals q x) × (result q x ≡ ls)
+listed-is q x ls =
+    reply-is (λ o. o .answer ≡ listed ls → Passed (refusals q x) × (result q x ≡ ls)) q x
+    (λ c n e. let z : _≡_ {A = ℕ} 0 1 = cc in absurd (omega arith)) (λ p e. (p, effect-listed q x ls e))
+
+pub bounds-is : (q : State) (k : ℕ) (v w : Extended) → reply q (bounds k) .answer ≡ between v w
+    → Passed (refusals q (bounds k)) × (numbered nobody k (q .sentences) .least (trail (q .rows)) ≡ v) × (numbered nobody k (q .sentences) .greatest (trail (q .rows)) ≡ w)
+bounds-is q k v w =
+    reply-is (λ o. o .answer ≡ between v w → Passed (refusals q (bounds k)) × (numbered nobody k (q .sentences) .least (trail (q .rows)) ≡ v) × (numbered nobody k (q .sentences) .greatest (trail (q .rows)) ≡ w)) q (bounds k)
+    (λ c n e. let z : _≡_ {A = ℕ} 0 1 = cc in absurd (omega arith)) (λ p e. (p, (cc), (cc)))
+
+-- ---- what the tests tell
+
+affirmed : (b : Bool) → T (not (not b)) → T b
+affirmed true h = tt
+affirmed false h = h
+
+conflict-told : (y : Said) → T (is-conflict y) → y ≡ conflict
+conflict-told silent h = absurd h
+conflict-told conflict h = refl
+conflict-told (forced l) h = absurd h
+
+-- the least and the greatest value of sentence k over the trail
+pub record Bounded (ss : List Sentence) (t : List ℤ) (k : ℕ) (v w : Extended) : Type 0 where
+  pub sentence : Sentence
+  pub number : IsNumber k ss sentence
+  pub least : Furthest down sentence t v
+  pub greatest : Furthest up sentence t w
+
+module _ (lim : Limits) (js : List Judged) (b : Book) (m : JudgesAll (b .sentences) js) (h : SoundBook b) (size : ℕ) (d : Counters) where
+  abbrev q : State
+  q = book-state lim js b size d
+
+  abbrev t : List ℤ
+  t = trail (b .rows)
+
+  c : Consistent t
+  c = consistent (b .atoms) (b .sentences) (b .level) (b .rows) h
+
+  sentence-at : (k : ℕ) → T (not (no-sentence q k)) → (s : Sentence) × IsNumber k (b .sentences) s
+  sentence-at k p =
+      let i = both-told (leb 1 k) (leb k (length js)) p in
+      numbered-exists k (b .sentences) (leb→le 1 k (i .0)) (subst (λ n. k ≤ n) (sym (judges-length (b .sentences) js m)) (leb→le k (length js) (i .1)))
+
+  -- bounds
+  pub bounds-mean : (k : ℕ) (v w : Extended) → reply q (bounds k) .answer ≡ between v w → Bounded (b .sentences) t k v w
+  bounds-mean k v w e =
+      let x = bounds-is q k v w e in
+      let s = sentence-at k (x .0 .0) in
+      let j = judges-numbered nobody k (b .sentences) js (s .0) m (s .1) in
+      record {
+        sentence = s .0;
+        number = s .1;
+        least = subst (Furthest down (s .0) t) (x .1) (j .least-is t c);
+        greatest = subst (Furthest up (s .0) t) (x .2) (j .greatest-is t c);
+      }
+
+  in-conflict-means : (k : ℕ) (s : Sentence) → IsNumber k (b .sentences) s → T (in-conflict q k) → Conflict s t
+  in-conflict-means k s num y =
+      let j = judges-numbered nobody k (b .sentences) js s m num in
+      subst (Says s t (numbered nobody k js .scope)) (conflict-told (numbered nobody k js .says t) y) (j .said t c)
+
+  module _ (blind : Each Blind (b .sentences)) where
+    -- explain
+    pub explain-means : (l : ℤ) (room : ℕ) (ls : List ℤ) → reply q (explain l room) .answer ≡ listed ls → Explains (b .sentences) (b .rows) l ls
+    explain-means l room ls e =
+        let x = listed-is q (explain l room) ls e in
+        subst (Explains (b .sentences) (b .rows) l) (x .1)
+        (explained (b .atoms) (b .sentences) js blind m (b .level) (b .rows) h l (stands-told l t (affirmed (stands q l) (x .0 .1 .0)))
+        (λ z. T-not (was-given q l) (x .0 .1 .1 .0) (T-true (eq-eqb (row-of l (b .rows) .mine .reason) 0 z))))
+
+    -- explain-conflict
+    pub explain-conflict-means : (k room : ℕ) (ls : List ℤ) → reply q (explain-conflict k room) .answer ≡ listed ls → ExplainsConflict (b .sentences) (b .rows) k ls
+    explain-conflict-means k room ls e =
+        let x = listed-is q (explain-conflict k room) ls e in
+        let s = sentence-at k (x .0 .0) in
+        subst (ExplainsConflict (b .sentences) (b .rows) k) (x .1)
+        (conflict-explained (b .atoms) (b .sentences) js blind m (b .level) (b .rows) h k (s .0) (s .1)
+        (in-conflict-means k (s .0) (s .1) (affirmed (in-conflict q k) (x .0 .1 .0))))
+
+    -- origin
+    pub origin-means : (l : ℤ) (room : ℕ) (ls : List ℤ) → reply q (origin l room) .answer ≡ listed ls → OriginList (b .sentences) (b .rows) l ls
+    origin-means l room ls e =
+        let x = listed-is q (origin l room) ls e in
+        subst (OriginList (b .sentences) (b .rows) l) (x .1)
+        (originates (b .atoms) (b .sentences) js blind m (b .level) (b .rows) h l (stands-told l t (affirmed (stands q l) (x .0 .1 .0))))

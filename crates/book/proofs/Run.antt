@@ -1,0 +1,157 @@
+-- Propagate settles: one step more than there are atoms always suffices, since every step but the last puts on an atom. So it ends at
+-- still, where every sentence is silent, or at a conflict; and what it puts on is forced by the lowest-numbered sentence that speaks.
+-- Assumes nothing.
+use mathlib.Core.Path.{_≡_, refl, _∙_, ap}
+use mathlib.Core.Logic.{_⊎_, inl, inr}
+use mathlib.Core.List.{List, [], _∷_, _++_}
+use Prim.Native.Nat.{ℕ, zero, suc, _+_, _-_, _≤_, _<_}
+use native.Mathlib.Omega.{arith}
+use lib.ListN.{length, length-append}
+use lib.IntN.{ℤ}
+use Rattle.meaning.specs.Meaning.{Sentence, Conflict, Said, silent, conflict, forced, Each}
+use Rattle.book.specs.Rows.{Row, row, trail}
+use Rattle.book.specs.Table.{Judged, Speech, nothing, objects, derives, spoken, speech, Stop, run}
+use Rattle.book.specs.Book.{JudgesAll}
+use Rattle.book.proofs.Number.{numbered-positive}
+use Rattle.book.proofs.Speech.{SaysNothing, ForcesFirst, Speaker, silent-of, conflict-of, derived-of}
+use Rattle.book.proofs.Sound.{Scoped, Sound, consistent, derive-sound}
+use Rattle.book.proofs.Few.{few-rows}
+use Rattle.book.proofs.Keeps.{next}
+
+-- step after step, until nothing is said (0) or sentence k is in conflict (k)
+pub data Runs (js : List Judged) (v : ℕ) : List Row → ℕ → List Row → Type 0 where
+  rests : {rs : List Row} → speech 1 js (trail rs) ≡ nothing → Runs js v rs 0 rs
+  clashes : {rs : List Row} {k : ℕ} → speech 1 js (trail rs) ≡ objects k → Runs js v rs k rs
+  puts : {rs rs′ : List Row} {k e : ℕ} {l : ℤ} → speech 1 js (trail rs) ≡ derives k l → Runs js v (row l v k ∷ rs) e rs′ → Runs js v rs e rs′
+
+-- the rows put on over some rows, each at the level v and derived over those before it
+module _ (ss : List Sentence) (v : ℕ) (rs : List Row) where
+  pub record DerivedRow (r : Row) (before : List Row) : Type 0 where
+    pub level-is : r .level ≡ v
+    pub forced-by : Speaker (trail before) (ForcesFirst (trail before) (r .literal)) ss (r .reason)
+
+  abbrev pub DerivedRows : List Row → Type 0
+  DerivedRows [] = Unit {0}
+  DerivedRows (r ∷ added) = DerivedRow r (added ++ rs) × DerivedRows added
+
+  pub record Additions (rows : List Row) : Type 0 where
+    pub added : List Row
+    pub rows-are : rows ≡ added ++ rs
+    pub derived : DerivedRows added
+
+-- nothing is said only where every judgement is silent
+quiet-judgements : (k : ℕ) (js : List Judged) (t : List ℤ) → speech k js t ≡ nothing → Each (λ j. j .says t ≡ silent) js
+unfolding speech
+quiet-judgements k [] t e = tt
+quiet-judgements k (j ∷ js) t e = go (j .says t) refl e (λ g. quiet-judgements (suc k) js t g)
+  where
+    go : (y : Said) → j .says t ≡ y → spoken y k (speech (suc k) js t) ≡ nothing → (speech (suc k) js t ≡ nothing → Each (λ j. j .says t ≡ silent) js) → Each (λ j. j .says t ≡ silent) (j ∷ js)
+    go silent q e ih = (q, ih e)
+    go conflict q e ih = let z : _≡_ {A = ℕ} 0 1 = cc in absurd (omega arith)
+    go (forced l) q e ih = let z : _≡_ {A = ℕ} 0 1 = cc in absurd (omega arith)
+
+module _ (n : ℕ) (ss : List Sentence) (js : List Judged) (w : Each (Scoped n) ss) (m : JudgesAll ss js) (v : ℕ) where
+  speaker-of : (rs : List Row) → Sound n ss v rs → (k : ℕ) (l : ℤ) → speech 1 js (trail rs) ≡ derives k l → Speaker (trail rs) (ForcesFirst (trail rs) l) ss k
+  speaker-of rs h k l e = derived-of (trail rs) (consistent n ss v rs h) ss js m k l e
+
+  one-more : (rs : List Row) → Sound n ss v rs → (k : ℕ) (l : ℤ) → speech 1 js (trail rs) ≡ derives k l → Sound n ss v (row l v k ∷ rs)
+  one-more rs h k l e = derive-sound n ss w v rs k l h (speaker-of rs h k l e)
+
+  -- ---- enough steps
+
+  run-runs : (steps : ℕ) (rs : List Row) → Sound n ss v rs → n < steps + length rs → Runs js v rs (run js v steps rs .sentence) (run js v steps rs .rows)
+  unfolding run
+  run-runs zero rs h p = absurd (let f = few-rows n ss v rs h in omega (arith, f, p))
+  run-runs (suc steps) rs h p =
+      go (speech 1 js (trail rs)) refl (λ k l g. run-runs steps (row l v k ∷ rs) g (omega (arith, p)))
+    where
+      go : (y : Speech) → speech 1 js (trail rs) ≡ y → ((k : ℕ) (l : ℤ) → Sound n ss v (row l v k ∷ rs) → Runs js v (row l v k ∷ rs) (run js v steps (row l v k ∷ rs) .sentence) (run js v steps (row l v k ∷ rs) .rows))
+          → Runs js v rs (next js v steps rs y .sentence) (next js v steps rs y .rows)
+      go nothing e ih = rests e
+      go (objects k) e ih = clashes e
+      go (derives k l) e ih = puts e (ih k l (one-more rs h k l e))
+
+  pub run-settles : (rs : List Row) → Sound n ss v rs → Runs js v rs (run js v (suc n) rs .sentence) (run js v (suc n) rs .rows)
+  run-settles rs h = run-runs (suc n) rs h (omega arith)
+
+  -- and what runs is what `run` gives
+  runs-run : (steps : ℕ) (rs : List Row) (e : ℕ) (rs′ : List Row) → Sound n ss v rs → n < steps + length rs → Runs js v rs e rs′ → run js v steps rs ≡ record { sentence = e; rows = rs′ }
+  unfolding run
+  runs-run zero rs e rs′ h p r = absurd (let f = few-rows n ss v rs h in omega (arith, f, p))
+  runs-run (suc steps) rs e rs′ h p (rests q) = ap (next js v steps rs) q
+  runs-run (suc steps) rs e rs′ h p (clashes q) = ap (next js v steps rs) q
+  runs-run (suc steps) rs e rs′ h p (puts {k = k} {l = l} q r) =
+      ap (next js v steps rs) q ∙ runs-run steps (row l v k ∷ rs) e rs′ (one-more rs h k l q) (omega (arith, p)) r
+
+  pub run-is : (rs : List Row) (e : ℕ) (rs′ : List Row) → Sound n ss v rs → Runs js v rs e rs′ → run js v (suc n) rs ≡ record { sentence = e; rows = rs′ }
+  run-is rs e rs′ h r = runs-run (suc n) rs e rs′ h (omega arith) r
+
+  -- ---- the end
+
+  record LastStep (e : ℕ) (rs′ : List Row) : Type 0 where
+    pub sound : Sound n ss v rs′
+    pub last : ((e ≡ 0) × (speech 1 js (trail rs′) ≡ nothing)) ⊎ (speech 1 js (trail rs′) ≡ objects e)
+
+  last-step : (rs : List Row) (e : ℕ) (rs′ : List Row) → Sound n ss v rs → Runs js v rs e rs′ → LastStep e rs′
+  last-step rs e rs′ h (rests q) = record { sound = h; last = inl (refl, q) }
+  last-step rs e rs′ h (clashes q) = record { sound = h; last = inr q }
+  last-step rs e rs′ h (puts {k = k} {l = l} q r) = last-step (row l v k ∷ rs) e rs′ (one-more rs h k l q) r
+
+  module _ (rs : List Row) (h : Sound n ss v rs) where
+    abbrev stop : Stop
+    stop = run js v (suc n) rs
+
+    end : LastStep (stop .sentence) (stop .rows)
+    end = last-step rs (stop .sentence) (stop .rows) h (run-settles rs h)
+
+    clash-speaks : (k : ℕ) → speech 1 js (trail (stop .rows)) ≡ objects k → Speaker (trail (stop .rows)) (λ s. Conflict s (trail (stop .rows))) ss k
+    clash-speaks k e = conflict-of (trail (stop .rows)) (consistent n ss v (stop .rows) (end .sound)) ss js m k e
+
+    nothing-said : stop .sentence ≡ 0 → speech 1 js (trail (stop .rows)) ≡ nothing
+    nothing-said z = go (stop .sentence) (end .last) z
+      where
+        go : (e : ℕ) → ((e ≡ 0) × (speech 1 js (trail (stop .rows)) ≡ nothing)) ⊎ (speech 1 js (trail (stop .rows)) ≡ objects e) → e ≡ 0 → speech 1 js (trail (stop .rows)) ≡ nothing
+        go e (inl x) z = x .1
+        go e (inr q) z = let x = clash-speaks e q in let p = numbered-positive e ss (x .sentence) (x .number) in absurd (omega (arith, p, z))
+
+    -- at still every judgement is silent
+    pub still-silent : stop .sentence ≡ 0 → Each (λ j. j .says (trail (stop .rows)) ≡ silent) js
+    still-silent z = quiet-judgements 1 js (trail (stop .rows)) (nothing-said z)
+
+    -- and every sentence is: satisfiable, and it forces no open literal
+    pub still-means : stop .sentence ≡ 0 → Each (SaysNothing (trail (stop .rows))) ss
+    still-means z = silent-of (trail (stop .rows)) (consistent n ss v (stop .rows) (end .sound)) ss js m (nothing-said z)
+
+    -- a conflict is that of the lowest-numbered sentence that is not silent
+    pub clash-means : (k : ℕ) → stop .sentence ≡ suc k → Speaker (trail (stop .rows)) (λ s. Conflict s (trail (stop .rows))) ss (suc k)
+    clash-means k z = go (stop .sentence) (end .last) z
+      where
+        go : (e : ℕ) → ((e ≡ 0) × (speech 1 js (trail (stop .rows)) ≡ nothing)) ⊎ (speech 1 js (trail (stop .rows)) ≡ objects e) → e ≡ suc k
+            → Speaker (trail (stop .rows)) (λ s. Conflict s (trail (stop .rows))) ss (suc k)
+        go e (inl x) z = let y = x .0 in absurd (omega (arith, y, z))
+        go e (inr q) z = clash-speaks (suc k) (q ∙ ap objects z)
+
+    -- ---- what was put on
+
+    grows : (steps : ℕ) (added : List Row) → DerivedRows ss v rs added → Sound n ss v (added ++ rs) → Additions ss v rs (run js v steps (added ++ rs) .rows)
+    unfolding run
+    grows zero added d g = record { added = added; rows-are = refl; derived = d }
+    grows (suc steps) added d g =
+        go (speech 1 js (trail (added ++ rs))) refl (λ k l x y. grows steps (row l v k ∷ added) x y)
+      where
+        go : (y : Speech) → speech 1 js (trail (added ++ rs)) ≡ y
+            → ((k : ℕ) (l : ℤ) → DerivedRows ss v rs (row l v k ∷ added) → Sound n ss v (row l v k ∷ added ++ rs) → Additions ss v rs (run js v steps (row l v k ∷ added ++ rs) .rows))
+            → Additions ss v rs (next js v steps (added ++ rs) y .rows)
+        go nothing e ih = record { added = added; rows-are = refl; derived = d }
+        go (objects k) e ih = record { added = added; rows-are = refl; derived = d }
+        go (derives k l) e ih = ih k l (record { level-is = refl; forced-by = speaker-of (added ++ rs) g k l e }, d) (one-more (added ++ rs) g k l e)
+
+    -- each row put on is the first literal that its reason forces, and the sentences before the reason are silent
+    pub derived-means : Additions ss v rs (stop .rows)
+    derived-means = grows (suc n) [] tt h
+
+    pub growth : (length (stop .rows) - length rs ≡ length (derived-means .added)) × (length (derived-means .added) ≤ n)
+    growth =
+        let e : length (stop .rows) ≡ length (derived-means .added) + length rs = ap length (derived-means .rows-are) ∙ length-append (derived-means .added) rs in
+        let f : length (stop .rows) ≤ n = few-rows n ss v (stop .rows) (end .sound) in
+        (omega (arith, e), omega (arith, e, f))

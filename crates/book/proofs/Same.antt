@@ -1,0 +1,181 @@
+-- The answers are determined: any two lists of judgements that are right by full assignments give the same outcome to every call.
+-- Where the trail is consistent, what a sentence says and its bounds are one thing, and the trail of a sound book is consistent.
+-- Assumes nothing.
+use mathlib.Core.Path.{_≡_, refl, sym, _∙_, ap, ap₂, subst}
+use mathlib.Core.Bool.{not, cond, _&&_}
+use mathlib.Core.List.{List, [], _∷_}
+use Prim.Native.Nat.{ℕ, zero, suc, _-_}
+use lib.ListN.{length}
+use lib.IntN.{ℤ}
+use lib.Dec.{leb, ltb}
+use Rattle.numbers.specs.Extended.{up, down}
+use Rattle.meaning.specs.Meaning.{Sentence, Consistent, Says, Each}
+use Rattle.types.specs.declared.Limits.{Limits}
+use Rattle.book.specs.Rows.{Row, row, trail, numbered, explanation, conflict-explanation, origins}
+use Rattle.book.specs.Table.{Call, give, open-level, take-back, propagate, bounds, explain, explain-conflict, origin, list-trail, Answer, between, listed, Judged, State, scopes, nobody, Speech, nothing, objects, derives, spoken, speech, Stop, run, result, Refusal, refusal, no-atom, stands, was-given, is-conflict, refusals, Outcome, unchanged, ended, effect, decided, reply}
+use Rattle.book.specs.Book.{Judges, JudgesAll, Book, Asked, book-state, turn, after, answers, played}
+use Rattle.meaning.proofs.Says.{says-unique}
+use Rattle.meaning.proofs.Extremes.{furthest-unique}
+use Rattle.book.proofs.Number.{judges-length}
+use Rattle.book.proofs.Speech.{derived-of}
+use Rattle.book.proofs.Sound.{Scoped, Sound, consistent, derive-sound}
+use Rattle.book.proofs.Keeps.{next, SoundBook, turn-sound}
+
+-- ---- two judgements of a sentence
+
+scope-same : (s : Sentence) (j j′ : Judged) → Judges s j → Judges s j′ → j .scope ≡ j′ .scope
+scope-same s j j′ m m′ = m .scope-is ∙ sym (m′ .scope-is)
+
+module _ (t : List ℤ) (c : Consistent t) where
+  said-same : (s : Sentence) (j j′ : Judged) → Judges s j → Judges s j′ → j .says t ≡ j′ .says t
+  said-same s j j′ m m′ =
+      says-unique s t (j′ .scope) (j .says t) (j′ .says t) (subst (λ x. Says s t x (j .says t)) (scope-same s j j′ m m′) (m .said t c)) (m′ .said t c)
+
+  least-same : (s : Sentence) (j j′ : Judged) → Judges s j → Judges s j′ → j .least t ≡ j′ .least t
+  least-same s j j′ m m′ = furthest-unique down s t (j .least t) (j′ .least t) (m .least-is t c) (m′ .least-is t c)
+
+  greatest-same : (s : Sentence) (j j′ : Judged) → Judges s j → Judges s j′ → j .greatest t ≡ j′ .greatest t
+  greatest-same s j j′ m m′ = furthest-unique up s t (j .greatest t) (j′ .greatest t) (m .greatest-is t c) (m′ .greatest-is t c)
+
+-- ---- two lists of judgements
+
+-- what is one at every sentence is one at every number
+numbered-same : {A : Type 0} (f : Judged → A) → ((s : Sentence) (j j′ : Judged) → Judges s j → Judges s j′ → f j ≡ f j′)
+    → (k : ℕ) (ss : List Sentence) (js js′ : List Judged) → JudgesAll ss js → JudgesAll ss js′ → f (numbered nobody k js) ≡ f (numbered nobody k js′)
+unfolding numbered
+numbered-same f one k [] [] [] m m′ = refl
+numbered-same f one k [] [] (j′ ∷ js′) m m′ = absurd m′
+numbered-same f one k [] (j ∷ js) js′ m m′ = absurd m
+numbered-same f one k (s ∷ ss) [] js′ m m′ = absurd m
+numbered-same f one k (s ∷ ss) (j ∷ js) [] m m′ = absurd m′
+numbered-same f one zero (s ∷ ss) (j ∷ js) (j′ ∷ js′) m m′ = refl
+numbered-same f one (suc zero) (s ∷ ss) (j ∷ js) (j′ ∷ js′) m m′ = one s j j′ (m .0) (m′ .0)
+numbered-same f one (suc (suc k)) (s ∷ ss) (j ∷ js) (j′ ∷ js′) m m′ = numbered-same f one (suc k) ss js js′ (m .1) (m′ .1)
+
+scopes-same : (ss : List Sentence) (js js′ : List Judged) → JudgesAll ss js → JudgesAll ss js′ → scopes js ≡ scopes js′
+scopes-same [] [] [] m m′ = refl
+scopes-same [] [] (j′ ∷ js′) m m′ = absurd m′
+scopes-same [] (j ∷ js) js′ m m′ = absurd m
+scopes-same (s ∷ ss) [] js′ m m′ = absurd m
+scopes-same (s ∷ ss) (j ∷ js) [] m m′ = absurd m′
+scopes-same (s ∷ ss) (j ∷ js) (j′ ∷ js′) m m′ = ap₂ _∷_ (scope-same s j j′ (m .0) (m′ .0)) (scopes-same ss js js′ (m .1) (m′ .1))
+
+speech-same : (t : List ℤ) → Consistent t → (k : ℕ) (ss : List Sentence) (js js′ : List Judged) → JudgesAll ss js → JudgesAll ss js′ → speech k js t ≡ speech k js′ t
+unfolding speech
+speech-same t c k [] [] [] m m′ = refl
+speech-same t c k [] [] (j′ ∷ js′) m m′ = absurd m′
+speech-same t c k [] (j ∷ js) js′ m m′ = absurd m
+speech-same t c k (s ∷ ss) [] js′ m m′ = absurd m
+speech-same t c k (s ∷ ss) (j ∷ js) [] m m′ = absurd m′
+speech-same t c k (s ∷ ss) (j ∷ js) (j′ ∷ js′) m m′ =
+    ap₂ (λ y rest. spoken y k rest) (said-same t c s j j′ (m .0) (m′ .0)) (speech-same t c (suc k) ss js js′ (m .1) (m′ .1))
+
+module _ (n : ℕ) (ss : List Sentence) (js js′ : List Judged) (w : Each (Scoped n) ss) (m : JudgesAll ss js) (m′ : JudgesAll ss js′) where
+  run-same : (v steps : ℕ) (rs : List Row) → Sound n ss v rs → run js v steps rs ≡ run js′ v steps rs
+  unfolding run
+  run-same v zero rs h = refl
+  run-same v (suc steps) rs h =
+      go (speech 1 js (trail rs)) refl (λ k l g. run-same v steps (row l v k ∷ rs) g)
+      ∙ ap (next js′ v steps rs) (speech-same (trail rs) (consistent n ss v rs h) 1 ss js js′ m m′)
+    where
+      go : (y : Speech) → speech 1 js (trail rs) ≡ y → ((k : ℕ) (l : ℤ) → Sound n ss v (row l v k ∷ rs) → run js v steps (row l v k ∷ rs) ≡ run js′ v steps (row l v k ∷ rs))
+          → next js v steps rs y ≡ next js′ v steps rs y
+      go nothing e ih = refl
+      go (objects k) e ih = refl
+      go (derives k l) e ih = ih k l (derive-sound n ss w v rs k l h (derived-of (trail rs) (consistent n ss v rs h) ss js m k l e))
+
+-- ---- one call
+
+module _ (lim : Limits) (b : Book) (js js′ : List Judged) (w : Each (Scoped (b .atoms)) (b .sentences))
+    (m : JudgesAll (b .sentences) js) (m′ : JudgesAll (b .sentences) js′) (h : SoundBook b) where
+  module _ (a : Asked) where
+    abbrev q : State
+    q = book-state lim js b (a .size) (a .counters)
+
+    abbrev q′ : State
+    q′ = book-state lim js′ b (a .size) (a .counters)
+
+    abbrev t : List ℤ
+    t = trail (b .rows)
+
+    c : Consistent t
+    c = consistent (b .atoms) (b .sentences) (b .level) (b .rows) h
+
+    result-same : (x : Call) → result q x ≡ result q′ x
+    result-same (give l) = refl
+    result-same open-level = refl
+    result-same (take-back k) = refl
+    result-same propagate = refl
+    result-same (bounds k) = refl
+    result-same (explain l room) = ap (λ sc. explanation sc (b .rows) l) (scopes-same (b .sentences) js js′ m m′)
+    result-same (explain-conflict k room) = ap (λ sc. conflict-explanation sc (b .rows) k) (scopes-same (b .sentences) js js′ m m′)
+    result-same (origin l room) = ap (λ sc. origins sc (b .rows) l) (scopes-same (b .sentences) js js′ m m′)
+    result-same (list-trail room) = refl
+
+    abbrev short : ℕ → List ℤ → Refusal
+    short room ls = record { code = 18; applies = ltb room (length ls); value = length ls }
+
+    length-same : length js ≡ length js′
+    length-same = sym (judges-length (b .sentences) js m) ∙ judges-length (b .sentences) js′ m′
+
+    abbrev unnumbered : ℕ → ℕ → Refusal
+    unnumbered k n = refusal 16 (not (leb 1 k && leb k n))
+
+    refusals-same : (x : Call) → refusals q x ≡ refusals q′ x
+    refusals-same (give l) = refl
+    refusals-same open-level = refl
+    refusals-same (take-back k) = refl
+    refusals-same propagate = refl
+    refusals-same (bounds k) = ap (λ n. unnumbered k n ∷ []) length-same
+    refusals-same (explain l room) =
+        ap (λ ls. refusal 10 (no-atom q l) ∷ refusal 12 (not (stands q l)) ∷ refusal 13 (was-given q l) ∷ short room ls ∷ []) (result-same (explain l room))
+    refusals-same (explain-conflict k room) =
+        ap₂ (λ n y. unnumbered k n ∷ refusal 17 (not (is-conflict y)) ∷ short room (result q (explain-conflict k room)) ∷ [])
+        length-same (numbered-same (λ j. j .says t) (said-same t c) k (b .sentences) js js′ m m′)
+        ∙ ap (λ ls. unnumbered k (length js′) ∷ refusal 17 (not (is-conflict (numbered nobody k js′ .says t))) ∷ short room ls ∷ []) (result-same (explain-conflict k room))
+    refusals-same (origin l room) = ap (λ ls. refusal 10 (no-atom q l) ∷ refusal 12 (not (stands q l)) ∷ short room ls ∷ []) (result-same (origin l room))
+    refusals-same (list-trail room) = refl
+
+    effect-same : (x : Call) → effect q x ≡ effect q′ x
+    effect-same (give l) = refl
+    effect-same open-level = refl
+    effect-same (take-back k) = refl
+    effect-same propagate =
+        ap {B = Outcome} (λ (z : Stop). record { answer = ended (z .sentence) (length (z .rows) - length (b .rows)); level = b .level; rows = z .rows })
+        (run-same (b .atoms) (b .sentences) js js′ w m m′ (b .level) (suc (b .atoms)) (b .rows) h)
+    effect-same (bounds k) =
+        ap₂ (λ v w. unchanged q (between v w))
+        (numbered-same (λ j. j .least t) (least-same t c) k (b .sentences) js js′ m m′)
+        (numbered-same (λ j. j .greatest t) (greatest-same t c) k (b .sentences) js js′ m m′)
+    effect-same (explain l room) = ap (λ ls. unchanged q (listed ls)) (result-same (explain l room))
+    effect-same (explain-conflict k room) = ap (λ ls. unchanged q (listed ls)) (result-same (explain-conflict k room))
+    effect-same (origin l room) = ap (λ ls. unchanged q (listed ls)) (result-same (origin l room))
+    effect-same (list-trail room) = refl
+
+    decided-same : (rs : List Refusal) (o : Outcome) → decided q rs o ≡ decided q′ rs o
+    decided-same [] o = refl
+    decided-same (r ∷ rs) o = ap (cond (r .applies) (unchanged q (Answer.refused (r .code) (r .value)))) (decided-same rs o)
+
+    pub turn-same : turn lim js b a ≡ turn lim js′ b a
+    unfolding reply
+    turn-same =
+        ap₂ (λ rs o. decided q (refusal 9 (q .broken) ∷ rs) o) (refusals-same (a .call)) (effect-same (a .call))
+        ∙ decided-same (refusal 9 (q .broken) ∷ refusals q′ (a .call)) (effect q′ (a .call))
+
+-- ---- a list of calls
+
+pub answers-same : (lim : Limits) (b : Book) (js js′ : List Judged) → Each (Scoped (b .atoms)) (b .sentences) → JudgesAll (b .sentences) js → JudgesAll (b .sentences) js′
+    → SoundBook b → (xs : List Asked) → answers lim js b xs ≡ answers lim js′ b xs
+unfolding answers
+answers-same lim b js js′ w m m′ h [] = refl
+answers-same lim b js js′ w m m′ h (x ∷ xs) =
+    ap (λ (o : Outcome). o .answer ∷ answers lim js (after b o) xs) (turn-same lim b js js′ w m m′ h x)
+    ∙ ap (λ ys. turn lim js′ b x .answer ∷ ys) (answers-same lim (after b (turn lim js′ b x)) js js′ w m m′ (turn-sound lim js′ b w m′ h x) xs)
+
+pub played-same : (lim : Limits) (b : Book) (js js′ : List Judged) → Each (Scoped (b .atoms)) (b .sentences) → JudgesAll (b .sentences) js → JudgesAll (b .sentences) js′
+    → SoundBook b → (xs : List Asked) → played lim js b xs ≡ played lim js′ b xs
+unfolding played
+played-same lim b js js′ w m m′ h [] = refl
+played-same lim b js js′ w m m′ h (x ∷ xs) =
+    ap (λ (o : Outcome). played lim js (after b o) xs) (turn-same lim b js js′ w m m′ h x)
+    ∙ played-same lim (after b (turn lim js′ b x)) js js′ w m m′ (turn-sound lim js′ b w m′ h x) xs

@@ -1,0 +1,82 @@
+-- What the table's tests on rows tell: whether an atom or a literal is on the trail, and that a call is refused and changes nothing,
+-- or has its effect where no refusal applies.
+-- Assumes nothing.
+use mathlib.Core.Path.{_≡_, refl, sym, ap, subst}
+use mathlib.Core.Bool.{Bool, true, false, not, cond, _&&_}
+use mathlib.Core.Logic.{_⊎_, inl, inr}
+use mathlib.Core.List.{List, [], _∷_}
+use Prim.Native.Nat.{ℕ}
+use lib.IntN.{ℤ}
+use lib.Dec.{T, eqb, eqb-refl}
+use Rattle.meaning.specs.Meaning.{atom, same, On, Each}
+use Rattle.book.specs.Rows.{any}
+use Rattle.book.specs.Table.{State, Call, refused, Refusal, Outcome, unchanged, decided, refusal, refusals, effect, reply}
+use Rattle.meaning.proofs.Members.{same→eq, eq→same}
+
+-- ---- membership of literals
+
+abbrev pub Among : ℤ → List ℤ → Type 0
+Among l [] = ⊥
+Among l (x ∷ xs) = (l ≡ x) ⊎ Among l xs
+
+pub among-on : (l : ℤ) (t : List ℤ) → Among l t → On (atom l) t
+among-on l [] h = h
+among-on l (x ∷ xs) (inl e) = inl (ap atom (sym e))
+among-on l (x ∷ xs) (inr h) = inr (among-on l xs h)
+
+pub any-told : (p : ℤ → Bool) (ls : List ℤ) → T (any p ls) → (m : ℤ) × Among m ls × T (p m)
+unfolding any
+any-told p [] h = absurd h
+any-told p (x ∷ xs) h = go (p x) (λ t. t) h (λ k. any-told p xs k)
+  where
+    go : (b : Bool) → (T b → T (p x)) → T (cond b true (any p xs)) → (T (any p xs) → (m : ℤ) × Among m xs × T (p m)) → (m : ℤ) × Among m (x ∷ xs) × T (p m)
+    go true e h ih = (x, inl refl, e tt)
+    go false e h ih = let y = ih h in (y .0, inr (y .1), y .2)
+
+pub any-tells : (p : ℤ → Bool) (ls : List ℤ) (m : ℤ) → Among m ls → T (p m) → T (any p ls)
+unfolding any
+any-tells p [] m a h = a
+any-tells p (x ∷ xs) m a h = go (p x) a (λ e. subst (λ y. T (p y)) e h) (λ k. any-tells p xs m k h)
+  where
+    go : (b : Bool) → (m ≡ x) ⊎ Among m xs → (m ≡ x → T b) → (Among m xs → T (any p xs)) → T (cond b true (any p xs))
+    go true a y ih = tt
+    go false (inl e) y ih = absurd (y e)
+    go false (inr k) y ih = ih k
+
+pub on-tells : (a : ℕ) (t : List ℤ) → On a t → T (any (λ l. eqb (atom l) a) t)
+unfolding any
+on-tells a [] o = o
+on-tells a (l ∷ t) o = go (eqb (atom l) a) o (λ e. subst (λ x. T (eqb (atom l) x)) e (eqb-refl (atom l))) (λ k. on-tells a t k)
+  where
+    go : (b : Bool) → (atom l ≡ a) ⊎ On a t → (atom l ≡ a → T b) → (On a t → T (any (λ l. eqb (atom l) a) t)) → T (cond b true (any (λ l. eqb (atom l) a) t))
+    go true o y ih = tt
+    go false (inl e) y ih = absurd (y e)
+    go false (inr k) y ih = ih k
+
+pub stands-told : (l : ℤ) (t : List ℤ) → T (any (same l) t) → Among l t
+stands-told l t h = let x = any-told (same l) t h in subst (λ k. Among k t) (sym (same→eq l (x .0) (x .2))) (x .1)
+
+-- ---- tests of two parts
+
+pub both-told : (b c : Bool) → T (not (not (b && c))) → T b × T c
+both-told true true h = (tt, tt)
+both-told true false h = absurd h
+both-told false c h = absurd h
+
+-- ---- refused, or not
+
+abbrev pub Passed : List Refusal → Type 0
+Passed rs = Each (λ r. T (not (r .applies))) rs
+
+-- what holds of the unchanged state, and of the effect where no refusal applies, holds of the outcome
+decided-is : (P : Outcome → Type 0) (q : State) (rs : List Refusal) (o : Outcome) → ((c n : ℕ) → P (unchanged q (refused c n))) → (Passed rs → P o) → P (decided q rs o)
+decided-is P q [] o u f = f tt
+decided-is P q (r ∷ rs) o u f = go (r .applies) (λ t. t) (λ g. decided-is P q rs o u g)
+  where
+    go : (b : Bool) → (T (not b) → T (not (r .applies))) → ((Passed rs → P o) → P (decided q rs o)) → P (cond b (unchanged q (refused (r .code) (r .value))) (decided q rs o))
+    go true y ih = u (r .code) (r .value)
+    go false y ih = ih (λ p. f (y tt, p))
+
+pub reply-is : (P : Outcome → Type 0) (q : State) (x : Call) → ((c n : ℕ) → P (unchanged q (refused c n))) → (Passed (refusals q x) → P (effect q x)) → P (reply q x)
+unfolding reply
+reply-is P q x u f = decided-is P q (refusal 9 (q .broken) ∷ refusals q x) (effect q x) u (λ p. f (p .1))
