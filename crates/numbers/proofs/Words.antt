@@ -197,35 +197,44 @@ pub literal-even : (w : ℕ) → w % 2 ≡ 0 → literal-of w ≡ pos (w / 2)
 unfolding literal-of
 literal-even w e = rw e
 
-pub literal-odd : (w : ℕ) → w % 2 ≡ 1 → literal-of w ≡ negsuc (w / 2 - 1)
+pub literal-odd : (w : ℕ) → 2 ≤ w → w % 2 ≡ 1 → literal-of w ≡ negsuc (w / 2 - 1)
 unfolding literal-of
-literal-odd w e = rw e
+literal-odd w h e = rw e (opposite (w / 2) (omega arith))
+  where
+    opposite : (a : ℕ) → 1 ≤ a → negℤ (pos a) ≡ negsuc (a - 1)
+    opposite a l = omega (ints, neg-parts (pos a))
+
+pub literal-none : (w : ℕ) → w < 2 → literal-of w ≡ pos 0
+unfolding literal-of
+literal-none zero h = refl
+literal-none (suc zero) h = refl
+literal-none (suc (suc w)) h = let b : ⊥ = omega arith in absurd b
 
 parity : (w : ℕ) → (w % 2 ≡ 0) ⊎ (w % 2 ≡ 1)
 parity w = ⊎-elim (λ (p : w % 2 ≤ 0). inl (omega arith)) (λ (p : 0 < w % 2). inr (omega arith)) (cases 0 (w % 2))
 
 pub literal-of-word : (l : ℤ) → literal-of (literal-word l) ≡ l
 literal-of-word (pos a) = literal-even (2 * a) (omega arith) ∙ ap pos (omega arith)
-literal-of-word (negsuc a) = literal-odd (2 * suc a + 1) (omega arith) ∙ ap negsuc (omega arith)
+literal-of-word (negsuc a) = literal-odd (2 * suc a + 1) (omega arith) (omega arith) ∙ ap negsuc (omega arith)
 
 -- it is true of 0 too, and not of 1
 pub literal-word-of : (w : ℕ) → 2 ≤ w → literal-word (literal-of w) ≡ w
 literal-word-of w h =
     ⊎-elim
     (λ (e : w % 2 ≡ 0). rw (literal-even w e) (omega arith))
-    (λ (e : w % 2 ≡ 1). rw (literal-odd w e) (omega arith))
+    (λ (e : w % 2 ≡ 1). rw (literal-odd w h e) (omega arith))
     (parity w)
 
 pub literal-atom : (w : ℕ) → 2 ≤ w → natAbs (literal-of w) ≡ w / 2
 literal-atom w h =
     ⊎-elim
     (λ (e : w % 2 ≡ 0). rw (literal-even w e))
-    (λ (e : w % 2 ≡ 1). rw (literal-odd w e) (omega arith))
+    (λ (e : w % 2 ≡ 1). rw (literal-odd w h e) (omega arith))
     (parity w)
 
 -- the opposite literal's word
 pub opposite-even : (w : ℕ) → 2 ≤ w → w % 2 ≡ 0 → literal-of (w + 1) ≡ negℤ (literal-of w)
-opposite-even w h e = let o : (w + 1) % 2 ≡ 1 = omega arith in rw (literal-odd (w + 1) o, literal-even w e) (omega (ints, neg-parts (pos (w / 2))))
+opposite-even w h e = let o : (w + 1) % 2 ≡ 1 = omega arith in rw (literal-odd (w + 1) (omega arith) o, literal-even w e) (omega (ints, neg-parts (pos (w / 2))))
 
 pub opposite-odd : (w : ℕ) → 2 ≤ w → w % 2 ≡ 1 → literal-of (w - 1) ≡ negℤ (literal-of w)
-opposite-odd w h e = let o : (w - 1) % 2 ≡ 0 = omega arith in rw (literal-even (w - 1) o, literal-odd w e) (omega (ints, neg-parts (negsuc (w / 2 - 1))))
+opposite-odd w h e = let o : (w - 1) % 2 ≡ 0 = omega arith in rw (literal-even (w - 1) o, literal-odd w h e) (omega (ints, neg-parts (negsuc (w / 2 - 1))))

@@ -3,7 +3,7 @@
 -- Assumes nothing.
 use mathlib.Core.Bool.{Bool, true, false, cond}
 use Prim.Native.Nat.{ℕ, suc, _+_, _-_, _*_, _/_, _%_}
-use lib.IntN.{ℤ, pos, negsuc, subℕ}
+use lib.IntN.{ℤ, pos, negsuc, negℤ, subℕ}
 use lib.Dec.{eqb, leb}
 use Rattle.numbers.specs.Extended.{Extended, below, at, above}
 
@@ -32,5 +32,6 @@ abbrev pub literal-word : ℤ → ℕ
 literal-word (pos a) = 2 * a
 literal-word (negsuc a) = 2 * suc a + 1
 
+-- 0 and 1 are no literal's word: both give 0, which no atom has
 unfoldable pub literal-of : ℕ → ℤ
-literal-of w = cond (eqb (w % 2) 0) (pos (w / 2)) (negsuc (w / 2 - 1))
+literal-of w = cond (eqb (w % 2) 0) (pos (w / 2)) (negℤ (pos (w / 2)))
