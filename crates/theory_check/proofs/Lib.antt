@@ -5,3 +5,5 @@ pub mod Places
 pub mod Scope
 pub mod Entries
 pub mod Sentences
+pub mod Rules
+pub mod Same

@@ -7,7 +7,7 @@ use native.Mathlib.Omega.{arith}
 use native.Mathlib.Numerals.{add-one}
 use lib.ListN.{length}
 use Rattle.types.specs.declared.Limits.{Limits}
-use Rattle.area.specs.Layout.{word, record-at, before-at, written-at, merged-at, entry-at, entries-before}
+use Rattle.area.specs.Layout.{record-at, before-at, written-at, merged-at, entry-at, entries-before}
 use Rattle.theory_check.specs.Theory.{PlacesOk, Reasonable}
 use Rattle.theory_check.specs.Words.{ScopeAsked}
 

@@ -1,17 +1,16 @@
 -- A stored sentence's atoms by place: the head, and half the literal's word of each merged entry. So a row's reason is right where the
 -- word at its place says so.
 -- Assumes nothing.
-use mathlib.Core.Path.{_≡_, refl, sym, ap, _∙_, subst}
+use mathlib.Core.Path.{_≡_, sym, ap, _∙_, subst}
 use mathlib.Core.Bool.{Bool}
-use mathlib.Core.List.{List, _∷_}
-use Prim.Native.Nat.{ℕ, zero, suc, _+_, _*_, _-_, _/_, _%_, _<_, _≤_}
+use mathlib.Core.List.{List}
+use Prim.Native.Nat.{ℕ, zero, suc, _+_, _*_, _-_, _/_, _<_, _≤_}
 use native.Mathlib.Omega.{arith}
 use lib.ListN.{length, getD}
 use Rattle.decide.specs.Tells.{Tells}
-use Rattle.decide.proofs.Tells.{told-no, told-same}
-use Rattle.numbers.specs.Words.{literal-of}
-use Rattle.meaning.specs.Meaning.{atom, Entry}
-use Rattle.meaning.specs.Merge.{Rule, places, scope}
+use Rattle.decide.proofs.Tells.{told-same}
+use Rattle.meaning.specs.Meaning.{Entry}
+use Rattle.meaning.specs.Merge.{places, scope}
 use Rattle.area.specs.Layout.{word, literal-at, row-at, place-at, record-at, merged-at, entry-at, rule-at}
 use Rattle.area.specs.Whole.{Reasoned}
 use Rattle.theory_check.specs.Words.{stored-entry, HasAtom}

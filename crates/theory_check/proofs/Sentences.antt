@@ -2,7 +2,7 @@
 -- numbers, and the product of the weights as integers is that of the words above 2^62.
 -- Assumes nothing.
 use mathlib.Core.Path.{_≡_, refl, sym, ap, _∙_, subst}
-use mathlib.Core.Bool.{Bool, true, false, not}
+use mathlib.Core.Bool.{not}
 use mathlib.Core.List.{List}
 use Prim.Native.Nat.{ℕ, zero, suc, _+_, _*_, _-_, _%_, _<_, _≤_}
 use native.Mathlib.Omega.{arith}
@@ -12,14 +12,14 @@ use lib.Signed.{leZ}
 use lib.Dec.{T, leb→le, le→leb}
 use Rattle.types.specs.declared.Limits.{Limits}
 use Rattle.decide.specs.Below.{product-below}
-use Rattle.numbers.specs.Words.{half, unbias}
 use Rattle.numbers.proofs.Words.{unbias-natural}
-use Rattle.meaning.specs.Meaning.{Entry, place, Kind, sum, product, count, maximum, minimum, mixes, multiplied, Each}
-use Rattle.area.specs.Layout.{word, tag-at, before-at, written-at, merged-at, kind-of, constant-of, entries-of, entry-at, entry-words, rule-at}
-use Rattle.area.specs.Whole.{Near, EntryWhole, Once, weights-of, RuleWhole}
+use Rattle.meaning.specs.Meaning.{Entry, Kind, sum, product, count, maximum, minimum, mixes, multiplied, Each}
+use Rattle.area.specs.Layout.{word, tag-at, written-at, merged-at, kind-of, constant-of, entries-of, entry-at, entry-words, rule-at}
+use Rattle.area.specs.Whole.{Near, EntryWhole, Once, weights-of}
 use Rattle.theory_check.specs.Theory.{SentenceOk}
 use Rattle.theory_check.specs.Words.{stored-entry, factor, ConstantOk, RecordOk, EntriesOk}
 use Rattle.theory_check.proofs.Listing.{listed, entries-listed, each-by, by-each, once-by, by-once, multiplied-listed}
+use Rattle.theory_check.proofs.Weights.{literal-low}
 use Rattle.theory_check.proofs.Entries.{EntryOk, weight-above}
 
 -- ---- the constant
@@ -120,3 +120,7 @@ module _ (lim : Limits) (w : List ℕ) (n S b : ℕ) (room : entry-at w n S b + 
   own-rest s i l h =
       let e : entry-at w n S b + (i - entry-at w n S b) ≡ i = omega arith in
       ap {A = ℕ} (word w) (sym e) ∙ s .unused (i - entry-at w n S b) (omega arith) (omega arith)
+
+  -- the merged entries' words are of literals
+  pub literals-low : SentenceOk lim w n S b → (i : ℕ) → i < merged-at w b → 2 ≤ word w (entry-at w n S b + 2 * i + 1)
+  literals-low s i l = literal-low (word w (entry-at w n S b + 2 * i + 1)) (each-whole s i l .atom-low)

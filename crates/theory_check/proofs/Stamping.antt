@@ -10,7 +10,7 @@ use native.Mathlib.Omega.{arith}
 use native.Mathlib.Nat.{eq-or-lt-of-le}
 use lib.Dec.{eqb}
 use borrow.Author.Tests.{eqb-true, eqb-false}
-use lib.ListN.{length, set, length-set}
+use lib.ListN.{length, set, length-set, replicate, length-replicate, getD-replicate}
 use lib.Seq.{getD-set-same, getD-set-other}
 use Rattle.area.specs.Layout.{word}
 use Rattle.theory_check.specs.Theory.{Stamps}
@@ -70,3 +70,7 @@ stamps-upto f old i n seen s b = record { size = s .size; upto = λ a l. omega (
 
 pub stamps-more : (seen : List ℕ) (a b : ℕ) → Stamps seen a → a ≤ b → Stamps seen b
 stamps-more seen a b s h = record { size = s .size; upto = λ k l. omega (arith, s .upto k l) }
+
+-- a table of zeros
+pub zero-stamps : (n old : ℕ) → n ≡ 4097 → Stamps (replicate n 0) old
+zero-stamps n old e = record { size = length-replicate n 0 ∙ e; upto = λ k l. omega (arith, getD-replicate {A = ℕ} n k 0 0 (omega arith)) }

@@ -1,7 +1,7 @@
 -- Weights, constants and literals by their words: a number is near 0 where its word is near 2^62, and a literal's atom is half its word.
 -- Assumes nothing.
 use mathlib.Core.Path.{_≡_, refl, sym, ap, _∙_, subst}
-use mathlib.Core.Bool.{Bool, true, false}
+use mathlib.Core.Bool.{Bool}
 use mathlib.Core.Logic.{_⊎_, inl, inr, ⊎-elim}
 use Prim.Native.Nat.{ℕ, zero, suc, _+_, _*_, _-_, _/_, _%_, _<_, _≤_}
 use native.Mathlib.Omega.{arith}
@@ -14,10 +14,10 @@ use Rattle.numbers.specs.Integers.{positive, negative}
 use Rattle.numbers.specs.Words.{half, unbias, literal-of}
 use Rattle.numbers.proofs.Integers.{ints}
 use Rattle.numbers.proofs.Words.{cases, unbias-parts, unbias-zero, unbias-one, literal-even, literal-odd, literal-none, literal-atom}
-use Rattle.meaning.specs.Meaning.{atom, Entry, place}
+use Rattle.meaning.specs.Meaning.{atom, Entry}
 use Rattle.area.specs.Layout.{kind-of}
 use Rattle.area.specs.Whole.{Near, Added, Multiplied, WeightWhole}
-use Rattle.theory_check.specs.Words.{entry-of, ConstantOk}
+use Rattle.theory_check.specs.Words.{ConstantOk}
 
 -- ---- numbers
 

@@ -18,14 +18,16 @@ Inv-loop area n base at seen₀ old head kind counts written merged product₀ i
 abbrev μ-loop : tie.MeasureT-loop
 μ-loop area n base at seen₀ old head kind counts written merged product₀ i₀ seen product i = merged - i
 
+abbrev start : tie.Else1 Inv-loop μ-loop → tie.Start Inv-loop μ-loop
+start c = c .before .before .before .before .before .before .before .before .before .before .before
+
 -- the entry that was told of is whole, and its atom has a place in the table
-told : (c : tie.Else1 Inv-loop μ-loop) → EntryOk (c .before .before .before .before .before .before .before .before .before .before .before .args .area .now) (c .before .before .before .before .before .before .before .before .before .before .before .args .n) (c .before .before .before .before .before .before .before .before .before .before .before .args .base) (c .before .before .before .before .before .before .before .before .before .before .before .args .at) (c .before .before .before .before .before .loop .i)
+told : (c : tie.Else1 Inv-loop μ-loop) → EntryOk (start c .args .area .now) (start c .args .n) (start c .args .base) (start c .args .at) (c .before .before .before .before .before .loop .i)
 told c = granted (c .before .entry-ok .ensures) (c .if1 .left)
 
-below : (c : tie.Else1 Inv-loop μ-loop) → atom-at (c .before .before .before .before .before .before .before .before .before .before .before .args .area .now) (c .before .before .before .before .before .before .before .before .before .before .before .args .at) (c .before .before .before .before .before .loop .i) < 4097
+below : (c : tie.Else1 Inv-loop μ-loop) → atom-at (start c .args .area .now) (start c .args .at) (c .before .before .before .before .before .loop .i) < 4097
 below c =
-    let s = c .before .before .before .before .before .before .before .before .before .before .before in
-    omega (arith, told c .atom-high, s .pre .atoms, atom-half (word (s .args .area .now) (s .args .at + 2 * c .before .before .before .before .before .loop .i + 1)))
+    omega (arith, told c .atom-high, start c .pre .atoms, atom-half (word (start c .args .area .now) (start c .args .at + 2 * c .before .before .before .before .before .loop .i + 1)))
 
 mul-head : tie.Need-mul-head Inv-loop μ-loop
 mul-head c = search needs
