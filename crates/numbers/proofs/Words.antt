@@ -210,7 +210,7 @@ literal-none zero h = refl
 literal-none (suc zero) h = refl
 literal-none (suc (suc w)) h = let b : ⊥ = omega arith in absurd b
 
-parity : (w : ℕ) → (w % 2 ≡ 0) ⊎ (w % 2 ≡ 1)
+pub parity : (w : ℕ) → (w % 2 ≡ 0) ⊎ (w % 2 ≡ 1)
 parity w = ⊎-elim (λ (p : w % 2 ≤ 0). inl (omega arith)) (λ (p : 0 < w % 2). inr (omega arith)) (cases 0 (w % 2))
 
 pub literal-of-word : (l : ℤ) → literal-of (literal-word l) ≡ l

@@ -1,1 +1,3 @@
 pub mod Sentence
+pub mod Words
+pub mod Room

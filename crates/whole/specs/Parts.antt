@@ -14,6 +14,7 @@ use Rattle.book.specs.Rows.{trail}
 use Rattle.book.specs.Book.{Counters}
 use Rattle.area.specs.Layout.{record-at, pending-at, rule-at, rows-from}
 use Rattle.area.specs.Whole.{BoundsMatch}
+use Rattle.sentence.specs.Sentence.{Shows, Ready}
 use Rattle.trail_check.specs.Trail.{TrailOk}
 use Rattle.theory_check.specs.Theory.{PlacesOk, SentenceOk}
 
@@ -27,6 +28,11 @@ pub record Matching (w : List ℕ) (n S b : ℕ) (t : List ℤ) : Type 0 where
 pub record SentenceRight (lim : Limits) (w : List ℕ) (n S b : ℕ) (t : List ℤ) : Type 0 where
   pub words : SentenceOk lim w n S b
   pub matching : Matching w n S b t
+
+-- what matching a sentence asks: it can be evaluated, and the values show some trail
+pub record Evaluated (w : List ℕ) (n S b : ℕ) : Type 0 where
+  pub ready : Ready w n S b
+  pub shown : (t : List ℤ) × Shows w n t
 
 -- what the check of the sentences asks: the trail and the places are right
 pub record Placed (lim : Limits) (w : List ℕ) (n S len level : ℕ) : Type 0 where

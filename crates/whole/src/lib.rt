@@ -1,1 +1,1 @@
-// The check of wholeness.
+// The check of wholeness: word 0, the trail, the places of the sentences, each sentence with its bounds and what it says, the reasons.

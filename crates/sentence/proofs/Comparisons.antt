@@ -1,0 +1,126 @@
+-- A sentence in words, and its comparison at an extreme: the extreme on words stands for the extreme of the rule, and that the comparison
+-- has a truth there is that the word reaches, or does not reach, the limit. Assumes nothing.
+use mathlib.Core.Path.{_≡_, refl, sym, _∙_, ap}
+use mathlib.Core.Bool.{Bool, true, false, not, Bool·beq}
+use mathlib.Core.Logic.{⊎-elim}
+use mathlib.Core.List.{List}
+use Prim.Native.Nat.{ℕ, _+_, _≤_, _<_}
+use native.Mathlib.Omega.{arith}
+use lib.IntN.{ℤ}
+use lib.Dec.{leb}
+use borrow.Author.Tests.{le-leb, lt-leb}
+use Rattle.numbers.specs.Extended.{at, leE}
+use Rattle.numbers.specs.Words.{top, unbias, unword}
+use Rattle.numbers.proofs.Words.{cases, unword-at, word-leb}
+use Rattle.meaning.specs.Meaning.{Side, comparison}
+use Rattle.meaning.specs.Meaning as m
+use Rattle.meaning.specs.Merge.{Rule}
+use Rattle.meaning.specs.Computed.{starting, gather, extreme-of, extreme, towards, compared}
+use Rattle.meaning.proofs.Represents.{Off}
+use Rattle.area.specs.Layout.{constant-of, entries-of}
+use Rattle.area.specs.Whole.{Once}
+use Rattle.sentence.specs.declared.Kind.{Kind}
+use Rattle.sentence.specs.declared.Kind.the-variants.{Sum, Product, Count, Max, Min}
+use Rattle.sentence.specs.Words.{meant, start-word, contributions, extreme-word, limit-word, upwards, keeps}
+use Rattle.sentence.specs.Room.{Room, Rooms}
+use Rattle.sentence.proofs.Values.{direction, In, in-top, unword-empty}
+use Rattle.sentence.proofs.Reaches.{Legal, ShowsIn, folded-means, folded-in}
+
+abbrev pub sided : Bool → Side
+sided true = m.upper
+sided false = m.lower
+
+-- the rule that the words of a sentence stand for
+abbrev pub rule-words : Kind → Bool → ℕ → ℕ → ℕ → ℕ → List ℕ → Rule
+rule-words k upper bound c head written words = record {
+  head = head;
+  kind = meant k;
+  side = sided upper;
+  bound = unbias bound;
+  set = record { constant = constant-of (meant k) c; entries = entries-of words };
+  written = written;
+}
+
+-- the words are in range, and no fold over them wraps, whatever the values
+pub record Sound (n : ℕ) (k : Kind) (bound c head : ℕ) (words : List ℕ) : Type 0 where
+  pub legal : Legal k n words
+  pub once : Once (entries-of words)
+  pub headless : Off head (entries-of words)
+  pub start-in : In k (start-word k c)
+  pub rooms : (v : ℕ → ℕ) → Rooms k (start-word k c) v words
+  pub bound-low : 0 < bound
+  pub bound-high : bound < top
+  pub head-low : 1 ≤ head
+  pub head-high : head ≤ n
+
+starting-is : (k : Kind) (c : ℕ) → In k (start-word k c) → unword (start-word k c) ≡ starting (meant k) (constant-of (meant k) c)
+starting-is Sum c h = unword-at c (h .0) (h .1)
+starting-is Product c h = unword-empty Product
+starting-is Count c h = unword-at c (h .0) (h .1)
+starting-is Max c h = unword-empty Max
+starting-is Min c h = unword-empty Min
+
+-- ---- the limit
+
+below-limit : (bound e : ℕ) → leb e bound ≡ not (leb (bound + 1) e)
+below-limit bound e =
+    ⊎-elim
+    (λ (p : e ≤ bound). le-leb e bound p ∙ sym (ap not (lt-leb (bound + 1) e (omega arith))))
+    (λ (p : bound < e). lt-leb e bound p ∙ sym (ap not (le-leb (bound + 1) e (omega arith))))
+    (cases bound e)
+
+not-not : (b : Bool) → not (not b) ≡ b
+not-not true = refl
+not-not false = refl
+
+beq-true : (b : Bool) → Bool·beq true b ≡ b
+beq-true true = refl
+beq-true false = refl
+
+beq-false : (b : Bool) → Bool·beq false b ≡ not b
+beq-false true = refl
+beq-false false = refl
+
+module _ (bound e : ℕ) (low : 0 < bound) (high : bound < top) (within : e ≤ top) where
+  lower-is : comparison m.lower (unbias bound) (unword e) ≡ leb bound e
+  lower-is = ap (λ z. leE z (unword e)) (sym (unword-at bound low high)) ∙ word-leb bound e (omega arith)
+
+  upper-is : comparison m.upper (unbias bound) (unword e) ≡ leb e bound
+  upper-is = ap (leE (unword e)) (sym (unword-at bound low high)) ∙ word-leb e bound within
+
+  keeps-is : (upper b : Bool) → Bool·beq b (comparison (sided upper) (unbias bound) (unword e)) ≡ keeps (upwards upper b) (limit-word upper bound) e
+  keeps-is true true = ap (Bool·beq true) upper-is ∙ beq-true (leb e bound) ∙ below-limit bound e
+  keeps-is true false = ap (Bool·beq false) upper-is ∙ beq-false (leb e bound) ∙ ap not (below-limit bound e) ∙ not-not (leb (bound + 1) e)
+  keeps-is false true = ap (Bool·beq true) lower-is ∙ beq-true (leb bound e)
+  keeps-is false false = ap (Bool·beq false) lower-is ∙ beq-false (leb bound e)
+
+towards-is : (upper b : Bool) → towards (sided upper) b ≡ direction (upwards upper b)
+towards-is true true = refl
+towards-is true false = refl
+towards-is false true = refl
+towards-is false false = refl
+
+-- ---- the extremes
+
+module _ (n : ℕ) (k : Kind) (upper : Bool) (bound c head written : ℕ) (words : List ℕ) (sound : Sound n k bound c head words) where
+  abbrev R : Rule
+  R = rule-words k upper bound c head written words
+
+  pub extreme-in : (u : Bool) (v : ℕ → ℕ) → In k (extreme-word k u v c words)
+  extreme-in u v = folded-in n k u v (start-word k c) words (sound .legal) (sound .start-in) (sound .rooms v u)
+
+  pub extreme-means : (u : Bool) (v : ℕ → ℕ) (t : List ℤ) → ShowsIn n v t → extreme (direction u) R t ≡ unword (extreme-word k u v c words)
+  unfolding extreme
+  extreme-means u v t sh =
+      sym (folded-means n k u v t sh (start-word k c) words (sound .legal) (sound .start-in) (sound .rooms v u)
+      ∙ ap (λ z. gather (meant k) (extreme-of (meant k) (direction u) t) z (entries-of words)) (starting-is k c (sound .start-in)))
+
+  -- whether the comparison has the truth b at the extreme towards it
+  pub kept-at : (b : Bool) (v : ℕ → ℕ) (t : List ℤ) → ShowsIn n v t
+      → Bool·beq b (compared R (extreme (towards (sided upper) b) R t)) ≡ keeps (upwards upper b) (limit-word upper bound) (extreme-word k (upwards upper b) v c words)
+  kept-at b v t sh =
+      let u = upwards upper b in
+      let e = extreme-word k u v c words in
+      ap (λ d. Bool·beq b (compared R (extreme d R t))) (towards-is upper b)
+      ∙ ap (λ z. Bool·beq b (compared R z)) (extreme-means u v t sh)
+      ∙ keeps-is bound e (sound .bound-low) (sound .bound-high) (in-top k e (extreme-in u v)) upper b

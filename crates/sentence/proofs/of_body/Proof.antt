@@ -1,0 +1,101 @@
+use mathlib.Core.Path.{_≡_, sym, ap, _∙_}
+use mathlib.Core.Bool.{Bool, true, false, not, cond, _&&_}
+use mathlib.Core.Logic.{⊎-elim}
+use borrow.Author.Tests.{not-true, not-false}
+use Rattle.area.specs.Layout.{value-at, entry-words}
+use Rattle.sentence.specs.Words.{keeps, leaves-second, second-word, scanned}
+use borrow.Author.Needs.{needs}
+use Rattle.sentence.proofs.of_body.Statement.{statement}
+use Rattle.sentence.proofs.of_body.Tie as tie
+use Rattle.sentence.proofs.of_body.Reads as reads
+use Rattle.sentence.proofs.of_body.Lts as lts
+use Rattle.sentence.proofs.keep.Reads as keep-reads
+use Rattle.sentence.proofs.leaves_second.Reads as leaves-second-reads
+use Rattle.sentence.proofs.scan.Reads as scan-reads
+use Rattle.sentence.proofs.second.Reads as second-reads
+
+-- src/lib.rt:280:9
+keep-requires : tie.Need-keep-requires
+keep-requires c κs = search needs
+
+-- src/lib.rt:281:9
+returns : tie.Need-returns
+returns c = 
+    let a = c .before .before .before .args in
+    let v = value-at (a .area .now) (a .n) in
+    let words = entry-words (a .area .now) (a .start) (a .count) in
+    let lost : keeps (a .up) (a .limit) (a .e) ≡ false = sym (c .before .keep .ensures) ∙ not-true (c .before .keep .result) (c .if1 .taken) in
+    rw lost
+
+-- src/lib.rt:283:8
+keep-requires-2 : tie.Need-keep-requires-2
+keep-requires-2 c κs = search needs
+
+-- src/lib.rt:284:9
+returns-2 : tie.Need-returns-2
+returns-2 c = 
+    let a = c .before .before .before .before .before .args in
+    let v = value-at (a .area .now) (a .n) in
+    let words = entry-words (a .area .now) (a .start) (a .count) in
+    let held : keeps (a .up) (a .limit) (a .e) ≡ true = sym (c .before .before .before .keep .ensures) ∙ not-false (c .before .before .before .keep .result) (c .before .before .if1 .left) in
+    let within : keeps (a .up) (a .limit) (a .o) ≡ true = sym (c .before .keep2 .ensures) ∙ c .if2 .taken in
+    rw (held, within)
+
+-- src/lib.rt:286:8
+leaves-second-requires : tie.Need-leaves-second-requires
+leaves-second-requires c κs = search needs
+
+-- src/lib.rt:287:28
+second-requires : tie.Need-second-requires
+second-requires c κs = search needs
+
+-- src/lib.rt:287:12
+keep-requires-3 : tie.Need-keep-requires-3
+keep-requires-3 c κs = search needs
+
+-- src/lib.rt:288:13
+returns-3 : tie.Need-returns-3
+returns-3 c = 
+    let a = c .before .before .before .before .before .before .before .before .before .before .args in
+    let v = value-at (a .area .now) (a .n) in
+    let words = entry-words (a .area .now) (a .start) (a .count) in
+    let held : keeps (a .up) (a .limit) (a .e) ≡ true = sym (c .before .before .before .before .before .before .before .before .keep .ensures) ∙ not-false (c .before .before .before .before .before .before .before .before .keep .result) (c .before .before .before .before .before .before .before .if1 .left) in
+    let within : keeps (a .up) (a .limit) (a .o) ≡ false = sym (c .before .before .before .before .before .before .keep2 .ensures) ∙ c .before .before .before .before .before .if2 .left in
+    let leaves : leaves-second (a .kind) (a .up) ≡ true = sym (c .before .before .before .before .leaves-second .ensures) ∙ c .before .before .before .if3 .taken in
+    let keeping : keeps (a .up) (a .limit) (second-word (a .up) v words) ≡ true =
+    ap (keeps (a .up) (a .limit)) (sym (c .before .before .second .ensures)) ∙ sym (c .before .keep3 .ensures) ∙ c .if4 .taken in
+    rw (held, within, leaves, keeping)
+
+-- src/lib.rt:291:5
+scan-requires : tie.Need-scan-requires
+scan-requires c κs = search needs
+
+-- src/lib.rt:275:1
+returns-4 : tie.Need-returns-4
+returns-4 c = 
+    let a = c .before .before .before .before .before .before .before .before .args in
+    let v = value-at (a .area .now) (a .n) in
+    let words = entry-words (a .area .now) (a .start) (a .count) in
+    let held : keeps (a .up) (a .limit) (a .e) ≡ true = sym (c .before .before .before .before .before .before .keep .ensures) ∙ not-false (c .before .before .before .before .before .before .keep .result) (c .before .before .before .before .before .if1 .left) in
+    let within : keeps (a .up) (a .limit) (a .o) ≡ false = sym (c .before .before .before .before .keep2 .ensures) ∙ c .before .before .before .if2 .left in
+    let passed : (leaves-second (a .kind) (a .up) && keeps (a .up) (a .limit) (second-word (a .up) v words)) ≡ false =
+    ⊎-elim
+    (λ x. rw (sym (c .before .before .leaves-second .ensures) ∙ x .0 .taken) (ap (keeps (a .up) (a .limit)) (sym (x .1 .ensures)) ∙ sym (x .2 .ensures) ∙ x .3 .left))
+    (λ x. rw (sym (c .before .before .leaves-second .ensures) ∙ x .left))
+    (c .before .if3 .came) in
+    rw (held, within, passed) (c .scan .ensures)
+
+pub of-body-spec : {M : Type 1} → statement M
+of-body-spec =
+    tie.close
+    (tie.spec
+    keep-requires
+    returns
+    keep-requires-2
+    returns-2
+    leaves-second-requires
+    second-requires
+    keep-requires-3
+    returns-3
+    scan-requires
+    returns-4)

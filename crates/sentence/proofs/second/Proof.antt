@@ -1,0 +1,169 @@
+use mathlib.Core.Path.{_≡_, refl, sym, ap, _∙_, subst}
+use mathlib.Core.Bool.{Bool, true, false}
+use mathlib.Core.Logic.{⊎-elim}
+use Prim.Native.Nat.{ℕ, _+_, _*_, _-_, _/_, _≤_, _<_}
+use native.Mathlib.Omega.{arith}
+use borrow.Author.Needs.{needs}
+use Rattle.area.specs.Layout.{value-at, entry-words}
+use Rattle.sentence.specs.Words.{empty-word, best-kind, reach-word, furthest-word, nearest-word, second-word, weight-in, literal-in}
+use Rattle.sentence.proofs.Loops.{Seconds, next-in, seconds-start, seconds-next, seconds-end}
+use Rattle.sentence.proofs.second.Statement.{statement}
+use Rattle.sentence.proofs.second.Tie as tie
+use Rattle.sentence.proofs.second.Reads as reads
+use Rattle.sentence.proofs.second.Lts as lts
+use Rattle.sentence.proofs.furthest.Reads as furthest-reads
+use Rattle.sentence.proofs.nearest.Reads as nearest-reads
+use Rattle.sentence.proofs.reach.Reads as reach-reads
+
+abbrev Inv-loop : tie.InvT-loop
+Inv-loop area up start count n none best₀ next₀ i₀ best next i =
+    (i ≤ count) × Seconds (best-kind up) up (value-at area n) area start count best next i (second-word up (value-at area n) (entry-words area start count))
+    × (none ≡ empty-word (best-kind up))
+
+abbrev μ-loop : tie.MeasureT-loop
+μ-loop area up start count n none best₀ next₀ i₀ best next i = count - i
+
+-- src/lib.rt:174:5
+loop-holds : tie.Need-loop-holds Inv-loop μ-loop
+loop-holds c = 
+    let a = c .before .before .args in
+    let area = a .area .now in
+    let v = value-at area (a .n) in
+    let k = best-kind (a .up) in
+    let e : c .if1 .none ≡ empty-word k =
+    ⊎-elim
+    (λ x. x .1 ∙ ap (λ u. empty-word (best-kind u)) (sym (x .0 .taken)))
+    (λ x. x .1 ∙ ap (λ u. empty-word (best-kind u)) (sym (x .0 .left)))
+    (c .if1 .came) in (
+      omega arith,
+      rw e (seconds-start k (a .up) v area (a .start) (a .count) (empty-word k) (empty-word k)),
+      e,
+    )
+
+-- src/lib.rt:175:26
+mul-at : tie.Need-mul-at Inv-loop μ-loop
+mul-at c = search needs
+
+-- src/lib.rt:175:18
+add-at : tie.Need-add-at Inv-loop μ-loop
+add-at c = search needs
+
+-- src/lib.rt:176:17
+mul-w : tie.Need-mul-w Inv-loop μ-loop
+mul-w c = search needs
+
+-- src/lib.rt:176:17
+shared-slice-read-w : tie.Need-shared-slice-read-w Inv-loop μ-loop
+shared-slice-read-w c = search needs
+
+-- src/lib.rt:177:22
+add-l : tie.Need-add-l Inv-loop μ-loop
+add-l c = search needs
+
+-- src/lib.rt:177:17
+mul-l : tie.Need-mul-l Inv-loop μ-loop
+mul-l c = search needs
+
+-- src/lib.rt:177:17
+shared-slice-read-l : tie.Need-shared-slice-read-l Inv-loop μ-loop
+shared-slice-read-l c = search needs
+
+-- src/lib.rt:178:22
+sub-v : tie.Need-sub-v Inv-loop μ-loop
+sub-v c = search needs
+
+-- src/lib.rt:178:22
+add-v : tie.Need-add-v Inv-loop μ-loop
+add-v c = omega (arith, c .before .before .before .before .before .before .pre .atom-high (c .before .before .before .loop .i) (c .before .before .loop-test .taken))
+
+-- src/lib.rt:178:17
+mul-v : tie.Need-mul-v Inv-loop μ-loop
+mul-v c = omega (arith, c .before .before .before .before .before .before .pre .atom-high (c .before .before .before .loop .i) (c .before .before .loop-test .taken))
+
+-- src/lib.rt:178:17
+shared-slice-read-v : tie.Need-shared-slice-read-v Inv-loop μ-loop
+shared-slice-read-v c = omega (arith, c .before .before .before .before .before .before .before .pre .literal (c .before .before .before .before .loop .i) (c .before .before .before .loop-test .taken), c .before .before .before .before .before .before .before .pre .atom-high (c .before .before .before .before .loop .i) (c .before .before .before .loop-test .taken))
+
+-- src/lib.rt:179:13
+reach-requires : tie.Need-reach-requires Inv-loop μ-loop
+reach-requires c κs = search needs
+
+-- src/lib.rt:180:35
+nearest-requires : tie.Need-nearest-requires Inv-loop μ-loop
+nearest-requires c κs = search needs
+
+-- src/lib.rt:180:9
+furthest-requires : tie.Need-furthest-requires Inv-loop μ-loop
+furthest-requires c κs = search needs
+
+-- src/lib.rt:181:9
+furthest-requires-2 : tie.Need-furthest-requires-2 Inv-loop μ-loop
+furthest-requires-2 c κs = search needs
+
+-- src/lib.rt:182:9
+add-i : tie.Need-add-i Inv-loop μ-loop
+add-i c = search needs
+
+-- src/lib.rt:174:5
+loop-less : tie.Need-loop-less Inv-loop μ-loop
+loop-less c = search needs
+
+-- src/lib.rt:174:5
+loop-again : tie.Need-loop-again Inv-loop μ-loop
+loop-again c = 
+    let a = c .before .before .before .before .before .before .before .before .before .before .before .args in
+    let area = a .area .now in
+    let v = value-at area (a .n) in
+    let k = best-kind (a .up) in
+    let i = c .before .before .before .before .before .before .before .before .loop .i in
+    let j = c .before .before .before .before .before .before .before .before .loop .inv in
+    let h : i < a .count = c .before .before .before .before .before .before .before .loop-test .taken in
+    let g = c .before .before .before .before .before .before .before .before .before .before .before .pre .inside in
+    let up = a .up in
+    let best = c .before .before .before .before .before .before .before .before .loop .best in
+    let next = c .before .before .before .before .before .before .before .before .loop .next in
+    let x : c .before .before .before .reach .result ≡ next-in k up v area (a .start) (a .count) i =
+    c .before .before .before .reach .ensures ∙ ap (λ e. reach-word up e (weight-in area (a .start) i) (literal-in area (a .start) i) (v (literal-in area (a .start) i / 2))) (j .2) in
+    let y : c .before .furthest .result ≡ furthest-word up next (nearest-word up best (next-in k up v area (a .start) (a .count) i)) =
+    c .before .furthest .ensures ∙ ap (furthest-word up next) (c .before .before .nearest .ensures ∙ ap (nearest-word up best) x) in (
+      omega arith,
+      rw (c .furthest2 .ensures ∙ ap (furthest-word up best) x, y)
+      (seconds-next k up v area (a .start) (a .count) best next (second-word up v (entry-words area (a .start) (a .count))) i h g (j .1)),
+      j .2,
+    )
+
+-- src/lib.rt:166:1
+returns : tie.Need-returns Inv-loop μ-loop
+returns c = 
+    let a = c .before .before .before .before .args in
+    let area = a .area .now in
+    let v = value-at area (a .n) in
+    let e : c .before .loop .i ≡ a .count = omega arith in
+    seconds-end (best-kind (a .up)) (a .up) v area (a .start) (a .count) (c .before .loop .best) (c .before .loop .next) (second-word (a .up) v (entry-words area (a .start) (a .count))) (c .before .loop .i) e (c .before .loop .inv .1)
+
+pub second-spec : {M : Type 1} → statement M
+second-spec =
+    tie.close
+    (tie.spec
+    Inv-loop
+    μ-loop
+    loop-holds
+    mul-at
+    add-at
+    mul-w
+    shared-slice-read-w
+    add-l
+    mul-l
+    shared-slice-read-l
+    sub-v
+    add-v
+    mul-v
+    shared-slice-read-v
+    reach-requires
+    nearest-requires
+    furthest-requires
+    furthest-requires-2
+    add-i
+    loop-less
+    loop-again
+    returns)
