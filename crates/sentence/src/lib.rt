@@ -167,7 +167,11 @@ fn second(area: &[u64], up: bool, start: usize, count: usize, n: usize) -> u64
     requires { ⌜ Entries (now area) start count n ⌝ }
     ensures { λ r. ⌜ r ≡ second-word up (value-at (now (area .entry)) n) (entry-words (now (area .entry)) start count) ⌝ }
 {
-    let none = if up { kinds::Max::EMPTY } else { kinds::Min::EMPTY };
+    let none = if up {
+        kinds::Max::EMPTY
+    } else {
+        kinds::Min::EMPTY
+    };
     let mut best = none;
     let mut next = none;
     let mut i: usize = 0;
@@ -237,7 +241,16 @@ fn wanted(up: bool, empty: u64, w: u64, l: u64) -> u64
 }
 
 // The first open entry that turns.
-fn scan(area: &[u64], kind: Kind, up: bool, limit: u64, e: u64, start: usize, count: usize, n: usize) -> Said
+fn scan(
+    area: &[u64],
+    kind: Kind,
+    up: bool,
+    limit: u64,
+    e: u64,
+    start: usize,
+    count: usize,
+    n: usize,
+) -> Said
     requires { ⌜ Entries (now area) start count n ⌝ }
     requires { ⌜ Turnable kind up e (value-at (now area) n) (entry-words (now area) start count) ⌝ }
     ensures { λ r. ⌜ r ≡ scanned kind up limit e (value-at (now (area .entry)) n) (entry-words (now (area .entry)) start count) ⌝ }
@@ -272,7 +285,17 @@ fn leaves_second(kind: Kind, up: bool) -> bool
 }
 
 // With the head fixed: e is the extreme towards its truth, and o the other.
-fn of_body(area: &[u64], kind: Kind, up: bool, limit: u64, e: u64, o: u64, start: usize, count: usize, n: usize) -> Said
+fn of_body(
+    area: &[u64],
+    kind: Kind,
+    up: bool,
+    limit: u64,
+    e: u64,
+    o: u64,
+    start: usize,
+    count: usize,
+    n: usize,
+) -> Said
     requires { ⌜ Entries (now area) start count n ⌝ }
     requires { ⌜ Turnable kind up e (value-at (now area) n) (entry-words (now area) start count) ⌝ }
     ensures { λ r. ⌜ r ≡ body-says kind up limit e o (value-at (now (area .entry)) n) (entry-words (now (area .entry)) start count) ⌝ }
@@ -318,9 +341,17 @@ pub fn says(area: &[u64], n: usize, count: usize, base: usize, least: u64, great
     let v = area[n - 1 + head as usize];
     if v == 0 {
         if upper {
-            return of_head(!keep(true, limit, greatest), !keep(false, limit, least), head);
+            return of_head(
+                !keep(true, limit, greatest),
+                !keep(false, limit, least),
+                head,
+            );
         }
-        return of_head(!keep(false, limit, least), !keep(true, limit, greatest), head);
+        return of_head(
+            !keep(false, limit, least),
+            !keep(true, limit, greatest),
+            head,
+        );
     }
     let kind = kind_of(tag % 8);
     let start = 4 * n + 8 * count + 2 * area[base + 6] as usize;

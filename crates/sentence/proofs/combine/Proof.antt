@@ -11,7 +11,6 @@ use Rattle.sentence.proofs.furthest.Reads as furthest-reads
 use Rattle.sentence.proofs.plus.Reads as plus-reads
 use Rattle.sentence.proofs.times.Reads as times-reads
 
-
 -- src/lib.rt:124:22
 enum-told : tie.Need-enum-told
 enum-told c = search needs

@@ -92,7 +92,7 @@ shared-slice-read-merged c = search needs
 
 -- src/lib.rt:162:5
 folds-requires : tie.Need-folds-requires
-folds-requires c κs = 
+folds-requires c κs =
     let a = c .before .before .before .before .before .before .before .args in
     let w = a .area .now in
     let k = c .before .before .before .before .kind-of .result in
@@ -100,12 +100,12 @@ folds-requires c κs =
     let first = c .before .before .start-of .ensures in (
       entries-at w (a .n) (a .count) (a .base) (c .before .before .before .before .before .before .before .pre) k e,
       subst (λ x. Rooms k x (value-at w (a .n)) (entry-words w (entry-at w (a .n) (a .count) (a .base)) (merged-at w (a .base)))) (sym first)
-      (rooms-at w (a .n) (a .count) (a .base) (c .before .before .before .before .before .before .before .pre) k e),
+          (rooms-at w (a .n) (a .count) (a .base) (c .before .before .before .before .before .before .before .pre) k e),
     )
 
 -- src/lib.rt:154:1
 returns : tie.Need-returns
-returns c = 
+returns c =
     let a = c .before .before .before .before .before .before .before .before .args in
     let w = a .area .now in
     let k = c .before .before .before .before .before .kind-of .result in

@@ -16,7 +16,6 @@ use Rattle.sentence.proofs.combine.Reads as combine-reads
 use Rattle.sentence.proofs.empty.Reads as empty-reads
 use Rattle.sentence.proofs.reach.Reads as reach-reads
 
-
 abbrev Inv-loop : tie.InvT-loop
 Inv-loop area kind first start count n none least₀ greatest₀ i₀ least greatest i =
     (i ≤ count) × Folding kind least (rest-from kind false (value-at area n) area start count i) (folded kind first (contributions kind false (value-at area n) (entry-words area start count)))
@@ -32,7 +31,7 @@ empty-requires c κs = search needs
 
 -- src/lib.rt:142:5
 loop-holds : tie.Need-loop-holds Inv-loop μ-loop
-loop-holds c = 
+loop-holds c =
     let a = c .before .before .args in
     let area = a .area .now in
     let v = value-at area (a .n) in (
@@ -92,7 +91,7 @@ reach-requires c κs = search needs
 
 -- src/lib.rt:147:9
 combine-requires : tie.Need-combine-requires Inv-loop μ-loop
-combine-requires c κs = 
+combine-requires c κs =
     let a = c .before .before .before .before .before .before .before .before .args in
     let area = a .area .now in
     let v = value-at area (a .n) in
@@ -109,7 +108,7 @@ reach-requires-2 c κs = search needs
 
 -- src/lib.rt:148:9
 combine-requires-2 : tie.Need-combine-requires-2 Inv-loop μ-loop
-combine-requires-2 c κs = 
+combine-requires-2 c κs =
     let a = c .before .before .before .before .before .before .before .before .before .before .args in
     let area = a .area .now in
     let v = value-at area (a .n) in
@@ -130,7 +129,7 @@ loop-less c = search needs
 
 -- src/lib.rt:142:5
 loop-again : tie.Need-loop-again Inv-loop μ-loop
-loop-again c = 
+loop-again c =
     let a = c .before .before .before .before .before .before .before .before .before .before .before .args in
     let area = a .area .now in
     let v = value-at area (a .n) in
@@ -142,15 +141,15 @@ loop-again c =
     let y : c .before .reach2 .result ≡ next-in (a .kind) true v area (a .start) (a .count) i = c .before .reach2 .ensures ∙ ap (λ e. reach-word true e (weight-in area (a .start) i) (literal-in area (a .start) i) (v (literal-in area (a .start) i / 2))) (j .3) in (
       omega arith,
       rw (c .before .before .combine .ensures ∙ ap (combined (a .kind) (c .before .before .before .before .before .before .before .before .loop .least)) x)
-      (folding-next (a .kind) false v area (a .start) (a .count) (c .before .before .before .before .before .before .before .before .loop .least) (folded (a .kind) (a .first) (contributions (a .kind) false v (entry-words area (a .start) (a .count)))) i h g (j .1)),
+          (folding-next (a .kind) false v area (a .start) (a .count) (c .before .before .before .before .before .before .before .before .loop .least) (folded (a .kind) (a .first) (contributions (a .kind) false v (entry-words area (a .start) (a .count)))) i h g (j .1)),
       rw (c .combine2 .ensures ∙ ap (combined (a .kind) (c .before .before .before .before .before .before .before .before .loop .greatest)) y)
-      (folding-next (a .kind) true v area (a .start) (a .count) (c .before .before .before .before .before .before .before .before .loop .greatest) (folded (a .kind) (a .first) (contributions (a .kind) true v (entry-words area (a .start) (a .count)))) i h g (j .2)),
+          (folding-next (a .kind) true v area (a .start) (a .count) (c .before .before .before .before .before .before .before .before .loop .greatest) (folded (a .kind) (a .first) (contributions (a .kind) true v (entry-words area (a .start) (a .count)))) i h g (j .2)),
       j .3,
     )
 
 -- src/lib.rt:133:1
 returns : tie.Need-returns Inv-loop μ-loop
-returns c = 
+returns c =
     let a = c .before .before .before .before .args in
     let area = a .area .now in
     let v = value-at area (a .n) in

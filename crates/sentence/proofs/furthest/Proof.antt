@@ -6,7 +6,6 @@ use Rattle.sentence.proofs.furthest.Tie as tie
 use Rattle.sentence.proofs.furthest.Reads as reads
 use Rattle.sentence.proofs.furthest.Lts as lts
 
-
 -- src/lib.rt:72:1
 returns : tie.Need-returns
 returns c = rw (c .before .if1 .taken) (omega arith)

@@ -5,7 +5,6 @@ use Rattle.sentence.proofs.keep.Tie as tie
 use Rattle.sentence.proofs.keep.Reads as reads
 use Rattle.sentence.proofs.keep.Lts as lts
 
-
 -- src/lib.rt:192:9
 returns : tie.Need-returns
 returns c = rw (c .if1 .taken)

@@ -6,7 +6,6 @@ use Rattle.sentence.proofs.nearest.Tie as tie
 use Rattle.sentence.proofs.nearest.Reads as reads
 use Rattle.sentence.proofs.nearest.Lts as lts
 
-
 -- src/lib.rt:82:1
 returns : tie.Need-returns
 returns c = rw (c .before .if1 .taken) (omega arith)

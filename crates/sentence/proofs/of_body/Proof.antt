@@ -20,7 +20,7 @@ keep-requires c κs = search needs
 
 -- src/lib.rt:281:9
 returns : tie.Need-returns
-returns c = 
+returns c =
     let a = c .before .before .before .args in
     let v = value-at (a .area .now) (a .n) in
     let words = entry-words (a .area .now) (a .start) (a .count) in
@@ -33,7 +33,7 @@ keep-requires-2 c κs = search needs
 
 -- src/lib.rt:284:9
 returns-2 : tie.Need-returns-2
-returns-2 c = 
+returns-2 c =
     let a = c .before .before .before .before .before .args in
     let v = value-at (a .area .now) (a .n) in
     let words = entry-words (a .area .now) (a .start) (a .count) in
@@ -55,7 +55,7 @@ keep-requires-3 c κs = search needs
 
 -- src/lib.rt:288:13
 returns-3 : tie.Need-returns-3
-returns-3 c = 
+returns-3 c =
     let a = c .before .before .before .before .before .before .before .before .before .before .args in
     let v = value-at (a .area .now) (a .n) in
     let words = entry-words (a .area .now) (a .start) (a .count) in
@@ -72,7 +72,7 @@ scan-requires c κs = search needs
 
 -- src/lib.rt:275:1
 returns-4 : tie.Need-returns-4
-returns-4 c = 
+returns-4 c =
     let a = c .before .before .before .before .before .before .before .before .args in
     let v = value-at (a .area .now) (a .n) in
     let words = entry-words (a .area .now) (a .start) (a .count) in

@@ -5,7 +5,6 @@ use Rattle.sentence.proofs.of_head.Tie as tie
 use Rattle.sentence.proofs.of_head.Reads as reads
 use Rattle.sentence.proofs.of_head.Lts as lts
 
-
 -- src/lib.rt:300:29
 mul-t5 : tie.Need-mul-t5
 mul-t5 c = search needs

@@ -7,7 +7,6 @@ use Rattle.sentence.proofs.reach.Reads as reads
 use Rattle.sentence.proofs.reach.Lts as lts
 use Rattle.sentence.proofs.furthest.Reads as furthest-reads
 
-
 -- src/lib.rt:97:9
 furthest-requires : tie.Need-furthest-requires
 furthest-requires c κs = search needs

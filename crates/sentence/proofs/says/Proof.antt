@@ -86,7 +86,7 @@ of-head-requires c κs = search needs
 
 -- src/lib.rt:321:13
 returns : tie.Need-returns
-returns c = 
+returns c =
     let s = c .before .before .before .before .before .before .before .before .before .before .before in
     let a = s .args in
     let w = a .area .now in
@@ -118,7 +118,7 @@ of-head-requires-2 c κs = search needs
 
 -- src/lib.rt:323:9
 returns-2 : tie.Need-returns-2
-returns-2 c = 
+returns-2 c =
     let s = c .before .before .before .before .before .before .before .before .before .before .before in
     let a = s .args in
     let w = a .area .now in
@@ -186,7 +186,7 @@ shared-slice-read-merged c = search needs
 
 -- src/lib.rt:331:9
 of-body-requires : tie.Need-of-body-requires
-of-body-requires c κs = 
+of-body-requires c κs =
     let s = c .before .before .before .before .before .before .before .before .before .before .before .before in
     let a = s .args in
     let w = a .area .now in
@@ -198,7 +198,7 @@ of-body-requires c κs =
 
 -- src/lib.rt:331:9
 returns-3 : tie.Need-returns-3
-returns-3 c = 
+returns-3 c =
     let s = c .before .before .before .before .before .before .before .before .before .before .before .before .before in
     let a = s .args in
     let w = a .area .now in
@@ -224,7 +224,7 @@ returns-3 c =
 
 -- src/lib.rt:333:5
 of-body-requires-2 : tie.Need-of-body-requires-2
-of-body-requires-2 c κs = 
+of-body-requires-2 c κs =
     let s = c .before .before .before .before .before .before .before .before .before .before .before .before in
     let a = s .args in
     let w = a .area .now in
@@ -236,7 +236,7 @@ of-body-requires-2 c κs =
 
 -- src/lib.rt:308:1
 returns-4 : tie.Need-returns-4
-returns-4 c = 
+returns-4 c =
     let s = c .before .before .before .before .before .before .before .before .before .before .before .before .before in
     let a = s .args in
     let w = a .area .now in

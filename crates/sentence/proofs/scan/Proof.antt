@@ -27,7 +27,7 @@ abbrev μ-loop : tie.MeasureT-loop
 
 -- src/lib.rt:246:5
 loop-holds : tie.Need-loop-holds Inv-loop μ-loop
-loop-holds c = 
+loop-holds c =
     let a = c .before .args in
     let area = a .area .now in
     let v = value-at area (a .n) in (
@@ -81,7 +81,7 @@ shared-slice-read-v c = omega (arith, c .before .before .before .before .before 
 
 -- src/lib.rt:252:16
 turn-requires : tie.Need-turn-requires Inv-loop μ-loop
-turn-requires c κs = 
+turn-requires c κs =
     let a = c .before .before .before .before .before .before .before .args in
     let area = a .area .now in
     let v = value-at area (a .n) in
@@ -100,7 +100,7 @@ empty-requires c κs = search needs
 
 -- src/lib.rt:253:37
 wanted-requires : tie.Need-wanted-requires Inv-loop μ-loop
-wanted-requires c κs = 
+wanted-requires c κs =
     let a = c .before .before .before .before .before .before .before .before .before .before .args in
     let area = a .area .now in
     let v = value-at area (a .n) in
@@ -117,7 +117,7 @@ wanted-requires c κs =
 
 -- src/lib.rt:253:17
 returns : tie.Need-returns Inv-loop μ-loop
-returns c = 
+returns c =
     let a = c .before .before .before .before .before .before .before .before .before .before .before .args in
     let area = a .area .now in
     let v = value-at area (a .n) in
@@ -143,7 +143,7 @@ loop-less c = search needs
 
 -- src/lib.rt:246:5
 loop-again : tie.Need-loop-again Inv-loop μ-loop
-loop-again c = 
+loop-again c =
     let a = c .before .before .before .before .before .before .before .args in
     let area = a .area .now in
     let v = value-at area (a .n) in
@@ -163,7 +163,7 @@ loop-again c =
 
 -- src/lib.rt:240:1
 returns-2 : tie.Need-returns-2 Inv-loop μ-loop
-returns-2 c = 
+returns-2 c =
     let a = c .before .before .before .args in
     let area = a .area .now in
     let v = value-at area (a .n) in

@@ -25,7 +25,7 @@ abbrev μ-loop : tie.MeasureT-loop
 
 -- src/lib.rt:174:5
 loop-holds : tie.Need-loop-holds Inv-loop μ-loop
-loop-holds c = 
+loop-holds c =
     let a = c .before .before .args in
     let area = a .area .now in
     let v = value-at area (a .n) in
@@ -110,7 +110,7 @@ loop-less c = search needs
 
 -- src/lib.rt:174:5
 loop-again : tie.Need-loop-again Inv-loop μ-loop
-loop-again c = 
+loop-again c =
     let a = c .before .before .before .before .before .before .before .before .before .before .before .args in
     let area = a .area .now in
     let v = value-at area (a .n) in
@@ -128,13 +128,13 @@ loop-again c =
     c .before .furthest .ensures ∙ ap (furthest-word up next) (c .before .before .nearest .ensures ∙ ap (nearest-word up best) x) in (
       omega arith,
       rw (c .furthest2 .ensures ∙ ap (furthest-word up best) x, y)
-      (seconds-next k up v area (a .start) (a .count) best next (second-word up v (entry-words area (a .start) (a .count))) i h g (j .1)),
+          (seconds-next k up v area (a .start) (a .count) best next (second-word up v (entry-words area (a .start) (a .count))) i h g (j .1)),
       j .2,
     )
 
 -- src/lib.rt:166:1
 returns : tie.Need-returns Inv-loop μ-loop
-returns c = 
+returns c =
     let a = c .before .before .before .before .args in
     let area = a .area .now in
     let v = value-at area (a .n) in

@@ -8,7 +8,6 @@ use Rattle.sentence.proofs.wanted.Reads as reads
 use Rattle.sentence.proofs.wanted.Lts as lts
 use Rattle.sentence.proofs.furthest.Reads as furthest-reads
 
-
 -- src/lib.rt:233:8
 furthest-requires : tie.Need-furthest-requires
 furthest-requires c κs = search needs
