@@ -1,3 +1,5 @@
 pub mod Clauses
 pub mod Marks
 pub mod Paired
+pub mod Written
+pub mod Codes

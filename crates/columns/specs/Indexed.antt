@@ -1,6 +1,7 @@
--- The tests of the refusals over the columns themselves, from entry 0 up, as the loops take them; and a sentence's code.
+-- The tests of the refusals over the columns themselves, from entry 0 up, as the loops take them; and what a sentence is refused for.
 -- Assumes nothing.
-use mathlib.Core.Bool.{Bool, not, _||_}
+use mathlib.Core.Path.{_≡_}
+use mathlib.Core.Bool.{Bool, false, not, _||_}
 use mathlib.Core.List.{List}
 use Prim.Native.Nat.{ℕ}
 use lib.IntN.{ℤ, pos, negℤ, natAbs}
@@ -12,7 +13,7 @@ use Rattle.meaning.specs.Meaning.{atom, same}
 use Rattle.kinds.specs.Kinds.{weight-fits}
 use Rattle.area.specs.Layout.{kind-of}
 use Rattle.columns.specs.Columns.{Columns, Written}
-use Rattle.columns.specs.Refusals.{no-atom, sentence-refusals, first-refusal}
+use Rattle.columns.specs.Refusals.{unknown, no-atom, strange, out-of-range, own-head, mixed, too-great, sentence-refusals, first-refusal}
 use Rattle.columns.specs.declared.Answer.{Answer}
 use Rattle.columns.specs.declared.Sizes.{Sizes}
 
@@ -69,3 +70,12 @@ product-above weights = ltb 1000000000000000000 (product-below (length weights) 
 -- the first of 3 to 8 that a sentence is refused for, or 0
 abbrev pub sentence-code : Limits → ℕ → Written → ℕ
 sentence-code lim n x = first-refusal (sentence-refusals lim n 0 x) .code
+
+-- none of 3 to 8 applies to the sentence
+pub record Passes (lim : Limits) (n : ℕ) (x : Written) : Type 0 where
+  pub known : unknown lim x ≡ false
+  pub atoms : strange n x ≡ false
+  pub ranges : out-of-range x ≡ false
+  pub headless : own-head x ≡ false
+  pub unmixed : mixed x ≡ false
+  pub small : too-great x ≡ false

@@ -170,16 +170,19 @@ fn unfit(kind: u64, weights: &[i64]) -> bool
     false
 }
 
+fn bound_ok(bound: i64) -> bool
+    ensures { λ r. ⌜ r ≡ bound-fits bound ⌝ }
+{
+    if LEAST_BOUND <= bound { bound <= GREATEST_BOUND } else { false }
+}
+
 fn out_of_range(kind: u64, bound: i64, weights: &[i64]) -> bool
     ensures { λ r. ⌜ r ≡ (unfit-weights kind (now (weights .entry)) || not (bound-fits bound)) ⌝ }
 {
     if unfit(kind, weights) {
         return true;
     }
-    if bound < LEAST_BOUND {
-        return true;
-    }
-    bound > GREATEST_BOUND
+    !bound_ok(bound)
 }
 
 // ---- 6: the head's atom
