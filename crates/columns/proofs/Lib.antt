@@ -6,3 +6,8 @@ pub mod Codes
 pub mod Shapes
 pub mod Walk
 pub mod Answers
+pub mod Accepted
+pub mod Table
+pub mod Passing
+pub mod MergedSizes
+pub mod RuleWhole
