@@ -11,3 +11,4 @@ pub mod Table
 pub mod Passing
 pub mod MergedSizes
 pub mod RuleWhole
+pub mod Checks

@@ -46,8 +46,8 @@ one-signed [] h = tt
 one-signed (e ∷ es) h =
     let opposite = some (λ x. same (x .literal) (negℤ (e .literal))) es in (
       each-map (λ x. same (x .literal) (negℤ (e .literal)) ≡ false) (λ x. place x ≡ place e → x .literal ≡ e .literal) es
-      (λ x f q. one-literal (x .literal) (e .literal) q (λ r. T-false f (eq→same (x .literal) (negℤ (e .literal)) r)))
-      (none-of (λ x. same (x .literal) (negℤ (e .literal))) es (left-false opposite (both-signs es) h)),
+          (λ x f q. one-literal (x .literal) (e .literal) q (λ r. T-false f (eq→same (x .literal) (negℤ (e .literal)) r)))
+          (none-of (λ x. same (x .literal) (negℤ (e .literal))) es (left-false opposite (both-signs es) h)),
       one-signed es (right-false opposite (both-signs es) h),
     )
 

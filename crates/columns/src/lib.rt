@@ -173,7 +173,11 @@ fn unfit(kind: u64, weights: &[i64]) -> bool
 fn bound_ok(bound: i64) -> bool
     ensures { λ r. ⌜ r ≡ bound-fits bound ⌝ }
 {
-    if LEAST_BOUND <= bound { bound <= GREATEST_BOUND } else { false }
+    if LEAST_BOUND <= bound {
+        bound <= GREATEST_BOUND
+    } else {
+        false
+    }
 }
 
 fn out_of_range(kind: u64, bound: i64, weights: &[i64]) -> bool
@@ -336,12 +340,18 @@ fn first_refused(
             &literals[from..to],
         );
         if code != 0 {
-            return Answer { code, sentence: Sentence(s as u64 + 1) };
+            return Answer {
+                code,
+                sentence: Sentence(s as u64 + 1),
+            };
         }
         from = to;
         s += 1;
     }
-    Answer { code: 0, sentence: Sentence(0) }
+    Answer {
+        code: 0,
+        sentence: Sentence(0),
+    }
 }
 
 // What load answers, before a word is written: 0 and no sentence, or the first refusal that applies.
@@ -361,7 +371,10 @@ pub fn refusal(
     ensures { λ r. ⌜ r ≡ load-answer lim words atoms (columns (now (heads .entry)) (now (kinds .entry)) (now (sides .entry)) (now (bounds .entry)) (now (counts .entry)) (now (weights .entry)) (now (literals .entry))) ⌝ }
 {
     if past_limits(lim, atoms, heads.len() as u64, weights.len() as u64) {
-        return Answer { code: 1, sentence: Sentence(0) };
+        return Answer {
+            code: 1,
+            sentence: Sentence(0),
+        };
     }
     let sizes = Sizes {
         heads: heads.len(),
@@ -373,13 +386,32 @@ pub fn refusal(
         literals: literals.len(),
     };
     if unequal(sizes) {
-        return Answer { code: 1, sentence: Sentence(0) };
+        return Answer {
+            code: 1,
+            sentence: Sentence(0),
+        };
     }
     if !adds_up(counts, weights.len() as u64) {
-        return Answer { code: 1, sentence: Sentence(0) };
+        return Answer {
+            code: 1,
+            sentence: Sentence(0),
+        };
     }
     if words < 4 * atoms as usize + 8 * heads.len() + 2 * weights.len() {
-        return Answer { code: 2, sentence: Sentence(0) };
+        return Answer {
+            code: 2,
+            sentence: Sentence(0),
+        };
     }
-    first_refused(lim, atoms, heads, kinds, sides, bounds, counts, weights, literals)
+    first_refused(
+        lim,
+        atoms,
+        heads,
+        kinds,
+        sides,
+        bounds,
+        counts,
+        weights,
+        literals,
+    )
 }

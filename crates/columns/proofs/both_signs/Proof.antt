@@ -93,11 +93,11 @@ loop-less c = search needs
 
 loop-again : tie.Need-loop-again Inv-loop μ-loop
 loop-again c = let k = known (c .before .before) in (
-      omega arith,
-      simp length-set (c .before .before .before .before .before .loop .inv .1),
-      step-met (c .before .before .before .before .before .before .args .literals .now) (c .before .before .before .before .before .loop .i) (c .before .before .before .before .before .loop .met) (c .before .before .before .before .before .loop .inv .1) (c .before .before .before .before .before .loop .inv .2) (k .low) (k .high) _ _ (k .is) (marked (c .before)) (c .if1 .left),
-      some-more (c .before .before .before .before .before .loop .i) (negated-before (c .before .before .before .before .before .before .args .literals .now)) (c .before .before .before .before .before .loop .inv .3) (step-none (c .before .before .before .before .before .before .args .literals .now) (c .before .before .before .before .before .loop .i) (c .before .before .before .before .before .loop .met) (c .before .before .before .before .before .loop .inv .1) (c .before .before .before .before .before .loop .inv .2) (k .low) (k .high) _ _ (k .is) (marked (c .before)) (c .if1 .left)),
-    )
+  omega arith,
+  simp length-set (c .before .before .before .before .before .loop .inv .1),
+  step-met (c .before .before .before .before .before .before .args .literals .now) (c .before .before .before .before .before .loop .i) (c .before .before .before .before .before .loop .met) (c .before .before .before .before .before .loop .inv .1) (c .before .before .before .before .before .loop .inv .2) (k .low) (k .high) _ _ (k .is) (marked (c .before)) (c .if1 .left),
+  some-more (c .before .before .before .before .before .loop .i) (negated-before (c .before .before .before .before .before .before .args .literals .now)) (c .before .before .before .before .before .loop .inv .3) (step-none (c .before .before .before .before .before .before .args .literals .now) (c .before .before .before .before .before .loop .i) (c .before .before .before .before .before .loop .met) (c .before .before .before .before .before .loop .inv .1) (c .before .before .before .before .before .loop .inv .2) (k .low) (k .high) _ _ (k .is) (marked (c .before)) (c .if1 .left)),
+)
 
 returns-2 : tie.Need-returns-2 Inv-loop μ-loop
 returns-2 c = let ls = c .before .before .args .literals .now in let e : c .before .loop .i ≡ length ls = omega arith in sym (c .before .loop .inv .3) ∙ ap {A = ℕ} (λ k. some-below k (negated-before ls)) e

@@ -137,10 +137,10 @@ loop-less c = search needs
 
 loop-again : tie.Need-loop-again Inv-loop μ-loop
 loop-again c = (
-      omega arith,
-      sym (here (c .before .before .before .before .before .before .before .before .before) .place .next),
-      c .before .before .before .before .before .before .before .before .before .before .loop .inv .2 ∙ from-later (c .before .before .before .before .before .before .before .before .before .before .before .before .before .before .before .args .lim) (c .before .before .before .before .before .before .before .before .before .before .before .before .before .before .before .args .n) (cols (c .before .before .before .before .before .before .before .before .before .before .before .before .before .before .before)) (c .before .before .before .before .before .before .before .before .before .before .loop .s) (c .before .before .before .before .before .before .before .before .before .loop-test .taken) (sym (told (c .before)) ∙ c .if1 .left),
-    )
+  omega arith,
+  sym (here (c .before .before .before .before .before .before .before .before .before) .place .next),
+  c .before .before .before .before .before .before .before .before .before .before .loop .inv .2 ∙ from-later (c .before .before .before .before .before .before .before .before .before .before .before .before .before .before .before .args .lim) (c .before .before .before .before .before .before .before .before .before .before .before .before .before .before .before .args .n) (cols (c .before .before .before .before .before .before .before .before .before .before .before .before .before .before .before)) (c .before .before .before .before .before .before .before .before .before .before .loop .s) (c .before .before .before .before .before .before .before .before .before .loop-test .taken) (sym (told (c .before)) ∙ c .if1 .left),
+)
 
 returns-2 : tie.Need-returns-2 Inv-loop μ-loop
 returns-2 c = sym (c .before .loop .inv .2 ∙ from-none (c .before .before .before .before .before .before .args .lim) (c .before .before .before .before .before .before .args .n) (cols (c .before .before .before .before .before .before)) (c .before .loop .s) (omega arith))

@@ -91,23 +91,23 @@ returns-6 c = code-8 (c .before .before .before .before .before .before .before 
 
 returns-7 : tie.Need-returns-7
 returns-7 c = code-0 (c .before .before .before .before .before .before .before .before .before .before .before .before .before .args .lim) (c .before .before .before .before .before .before .before .before .before .before .before .before .before .args .n) (sentence (c .before .before .before .before .before .before .before .before .before .before .before .before .before)) (record {
-      known = unknown-told (c .before .before .before .before .before .before .before .before .before .before .before .before) ∙ c .before .before .before .before .before .before .before .before .before .before .before .if1 .left;
-      atoms = strange-told (c .before .before .before .before .before .before .before .before .before .before) ∙ c .before .before .before .before .before .before .before .before .before .if2 .left;
-      ranges = range-told (c .before .before .before .before .before .before .before .before) ∙ c .before .before .before .before .before .before .before .if3 .left;
-      headless = head-told (c .before .before .before .before .before .before) ∙ c .before .before .before .before .before .if4 .left;
-      unmixed = mixed-told (c .before .before .before .before) ∙ c .before .before .before .if5 .left;
-      small = too-great-is (c .before .before .before .before .before .before .before .before .before .before .before .before .before .args .lim) (c .before .before .before .before .before .before .before .before .before .before .before .before .before .args .n) (c .before .before .before .before .before .before .before .before .before .before .before .before .before .args .head) (c .before .before .before .before .before .before .before .before .before .before .before .before .before .args .kind) (c .before .before .before .before .before .before .before .before .before .before .before .before .before .args .side) (c .before .before .before .before .before .before .before .before .before .before .before .before .before .args .bound) (c .before .before .before .before .before .before .before .before .before .before .before .before .before .args .weights .now) (c .before .before .before .before .before .before .before .before .before .before .before .before .before .args .literals .now) (c .before .before .before .before .before .before .before .before .before .before .before .before .before .pre .1) (c .before .before .if6 .taken) (one-fits (c .before .before)) ∙ sym (c .before .too-great .ensures) ∙ c .if7 .left;
-    })
+  known = unknown-told (c .before .before .before .before .before .before .before .before .before .before .before .before) ∙ c .before .before .before .before .before .before .before .before .before .before .before .if1 .left;
+  atoms = strange-told (c .before .before .before .before .before .before .before .before .before .before) ∙ c .before .before .before .before .before .before .before .before .before .if2 .left;
+  ranges = range-told (c .before .before .before .before .before .before .before .before) ∙ c .before .before .before .before .before .before .before .if3 .left;
+  headless = head-told (c .before .before .before .before .before .before) ∙ c .before .before .before .before .before .if4 .left;
+  unmixed = mixed-told (c .before .before .before .before) ∙ c .before .before .before .if5 .left;
+  small = too-great-is (c .before .before .before .before .before .before .before .before .before .before .before .before .before .args .lim) (c .before .before .before .before .before .before .before .before .before .before .before .before .before .args .n) (c .before .before .before .before .before .before .before .before .before .before .before .before .before .args .head) (c .before .before .before .before .before .before .before .before .before .before .before .before .before .args .kind) (c .before .before .before .before .before .before .before .before .before .before .before .before .before .args .side) (c .before .before .before .before .before .before .before .before .before .before .before .before .before .args .bound) (c .before .before .before .before .before .before .before .before .before .before .before .before .before .args .weights .now) (c .before .before .before .before .before .before .before .before .before .before .before .before .before .args .literals .now) (c .before .before .before .before .before .before .before .before .before .before .before .before .before .pre .1) (c .before .before .if6 .taken) (one-fits (c .before .before)) ∙ sym (c .before .too-great .ensures) ∙ c .if7 .left;
+})
 
 returns-8 : tie.Need-returns-8
 returns-8 c = code-0 (c .before .before .before .before .before .before .before .before .before .before .before .args .lim) (c .before .before .before .before .before .before .before .before .before .before .before .args .n) (sentence (c .before .before .before .before .before .before .before .before .before .before .before)) (record {
-      known = unknown-told (c .before .before .before .before .before .before .before .before .before .before) ∙ c .before .before .before .before .before .before .before .before .before .if1 .left;
-      atoms = strange-told (c .before .before .before .before .before .before .before .before) ∙ c .before .before .before .before .before .before .before .if2 .left;
-      ranges = range-told (c .before .before .before .before .before .before) ∙ c .before .before .before .before .before .if3 .left;
-      headless = head-told (c .before .before .before .before) ∙ c .before .before .before .if4 .left;
-      unmixed = mixed-told (c .before .before) ∙ c .before .if5 .left;
-      small = no-product (c .before .before .before .before .before .before .before .before .before .before .before .args .lim) (c .before .before .before .before .before .before .before .before .before .before .before .args .n) (c .before .before .before .before .before .before .before .before .before .before .before .args .head) (c .before .before .before .before .before .before .before .before .before .before .before .args .kind) (c .before .before .before .before .before .before .before .before .before .before .before .args .side) (c .before .before .before .before .before .before .before .before .before .before .before .args .bound) (c .before .before .before .before .before .before .before .before .before .before .before .args .weights .now) (c .before .before .before .before .before .before .before .before .before .before .before .args .literals .now) (c .before .before .before .before .before .before .before .before .before .before .before .pre .1) (c .if6 .left);
-    })
+  known = unknown-told (c .before .before .before .before .before .before .before .before .before .before) ∙ c .before .before .before .before .before .before .before .before .before .if1 .left;
+  atoms = strange-told (c .before .before .before .before .before .before .before .before) ∙ c .before .before .before .before .before .before .before .if2 .left;
+  ranges = range-told (c .before .before .before .before .before .before) ∙ c .before .before .before .before .before .if3 .left;
+  headless = head-told (c .before .before .before .before) ∙ c .before .before .before .if4 .left;
+  unmixed = mixed-told (c .before .before) ∙ c .before .if5 .left;
+  small = no-product (c .before .before .before .before .before .before .before .before .before .before .before .args .lim) (c .before .before .before .before .before .before .before .before .before .before .before .args .n) (c .before .before .before .before .before .before .before .before .before .before .before .args .head) (c .before .before .before .before .before .before .before .before .before .before .before .args .kind) (c .before .before .before .before .before .before .before .before .before .before .before .args .side) (c .before .before .before .before .before .before .before .before .before .before .before .args .bound) (c .before .before .before .before .before .before .before .before .before .before .before .args .weights .now) (c .before .before .before .before .before .before .before .before .before .before .before .args .literals .now) (c .before .before .before .before .before .before .before .before .before .before .before .pre .1) (c .if6 .left);
+})
 
 pub sentence-refusal-spec : {M : Type 1} → statement M
 sentence-refusal-spec = tie.close (tie.spec unknown-requires returns strange-requires returns-2 out-of-range-requires returns-3 own-head-requires returns-4 mixed-requires returns-5 too-great-requires returns-6 returns-7 returns-8)
