@@ -3,12 +3,11 @@
 -- Assumes nothing.
 use mathlib.Core.Path.{_≡_, refl, sym, ap, _∙_}
 use mathlib.Core.Bool.{Bool, true, false, not, _||_, _&&_}
-use Prim.Native.Nat.{ℕ, zero, suc, _+_, _*_, _-_, _<_, _≤_}
+use Prim.Native.Nat.{ℕ, zero, suc, _+_, _-_, _<_, _≤_}
 use native.Mathlib.Omega.{arith}
 use native.Mathlib.Nat.{le-mul-of-pos-right}
-use lib.Dec.{T, leb, ltb, eqb, eqb·suc-zero}
+use lib.Dec.{leb, ltb, eqb, eqb·suc-zero}
 use lib.IntN.{ℤ, pos, negsuc, natAbs}
-use lib.Signed.{leZ, ltZ}
 use mir.Syntax.{w64}
 use mir.Val.{SFits, toZ, ofZ}
 use mir.ValLaws.{toZ-ofZ}

@@ -1,16 +1,16 @@
 -- The code of a sentence is that of the first test that holds, and the answer of a list of sentences that of the first sentence whose
 -- code is not 0. Assumes nothing.
-use mathlib.Core.Path.{_≡_, refl, sym, ap, _∙_}
+use mathlib.Core.Path.{_≡_, refl, ap, _∙_}
 use mathlib.Core.Bool.{Bool, true, false, cond}
 use mathlib.Core.List.{List, [], _∷_, _++_}
-use Prim.Native.Nat.{ℕ, suc}
+use Prim.Native.Nat.{ℕ}
 use native.Mathlib.Omega.{arith}
 use lib.Dec.{eqb}
 use borrow.Author.Tests.{eq-eqb, ne-eqb}
 use Rattle.types.specs.declared.Limits.{Limits}
 use Rattle.book.specs.Table.{Refusal}
 use Rattle.columns.specs.Columns.{Written}
-use Rattle.columns.specs.Refusals.{unknown, strange, out-of-range, own-head, mixed, too-great, about, sentence-refusals, all-refusals, first-refusal}
+use Rattle.columns.specs.Refusals.{unknown, strange, out-of-range, own-head, mixed, too-great, about, sentence-refusals, first-refusal}
 use Rattle.columns.specs.Indexed.{sentence-code, Passes}
 use Rattle.columns.specs.declared.Answer.{Answer}
 

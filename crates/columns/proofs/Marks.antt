@@ -7,12 +7,11 @@ use mathlib.Core.Logic.{_⊎_, inl, inr, ⊎-elim}
 use Prim.Native.Nat.{ℕ, zero, suc, _+_, _-_, _<_, _≤_}
 use native.Mathlib.Omega.{arith}
 use native.Mathlib.Nat.{eq-or-lt-of-le}
-use lib.Dec.{T, eqb}
+use lib.Dec.{eqb}
 use lib.IntN.{ℤ, pos, negsuc, negℤ}
 use lib.ListN.{length, getD, set, replicate, getD-replicate}
 use lib.Seq.{getD-set-same, getD-set-other}
 use borrow.Author.Tests.{eqb-true, eqb-false}
-use Rattle.decide.specs.Below.{some-below}
 use Rattle.decide.proofs.Below.{none-of, some-here}
 use Rattle.meaning.specs.Meaning.{atom, same}
 use Rattle.meaning.proofs.Orders.{is-true, is-false}

@@ -10,7 +10,7 @@ use native.Mathlib.Nat.{mul-assoc, mul-comm}
 use lib.IntN.{ℤ, pos, negℤ, natAbs, _*ℤ_}
 use lib.ListN.{length}
 use Rattle.decide.specs.Below.{some-below, product-below}
-use Rattle.meaning.specs.Meaning.{Entry, same, multiplied}
+use Rattle.meaning.specs.Meaning.{same, multiplied}
 use Rattle.area.specs.Whole.{weights-of}
 use Rattle.columns.specs.Columns.{paired}
 use Rattle.columns.specs.Refusals.{some, both-signs}

@@ -1,6 +1,6 @@
 -- What the six tests leave of a sentence that passes, entry by entry: its literals are of atoms and not of the head, its weights fit, an
 -- atom of a product, max or min has one sign, and the sentence is one that the book may hold. Assumes nothing.
-use mathlib.Core.Path.{_≡_, refl, sym, ap, subst, _∙_}
+use mathlib.Core.Path.{_≡_, refl, sym, ap, subst}
 use mathlib.Core.Bool.{Bool, true, false, not, _||_, _&&_}
 use mathlib.Core.List.{List, [], _∷_}
 use Prim.Native.Nat.{ℕ, zero, suc, _≤_}
@@ -11,7 +11,7 @@ use lib.Dec.{T, eqb, ltb}
 use lib.Signed.{leZ}
 use borrow.Author.Tests.{eqb-false, ltb-false, not-false}
 use Rattle.types.specs.declared.Limits.{Limits}
-use Rattle.meaning.specs.Meaning.{atom, Entry, place, Kind, sum, product, count, maximum, minimum, same, mixes, multiplied, weighable, Each, OneSigned}
+use Rattle.meaning.specs.Meaning.{atom, Entry, place, product, same, mixes, multiplied, weighable, Each, OneSigned}
 use Rattle.meaning.specs.Merge.{merge}
 use Rattle.meaning.proofs.Orders.{T-true, T-false}
 use Rattle.meaning.proofs.Gather.{each-map}

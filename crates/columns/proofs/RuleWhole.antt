@@ -1,16 +1,15 @@
 -- A sentence that passes is merged into a rule that meets load's rules: atoms are those of written entries and distinct, and the merged
 -- weights and the constant are no larger than a stored theory allows. Assumes nothing.
-use mathlib.Core.Path.{_≡_, refl, sym, ap, subst}
-use mathlib.Core.Bool.{not}
-use mathlib.Core.List.{List, [], _∷_}
+use mathlib.Core.Path.{_≡_, refl, sym, subst}
+use mathlib.Core.List.{List, []}
 use Prim.Native.Nat.{ℕ, _+_, _*_, _≤_}
 use native.Mathlib.Omega.{arith}
-use lib.IntN.{ℤ, pos, negsuc, negℤ, natAbs}
+use lib.IntN.{pos, negsuc, natAbs}
 use lib.ListN.{length}
 use lib.Dec.{T}
 use lib.Signed.{leZ}
 use Rattle.types.specs.declared.Limits.{Limits}
-use Rattle.meaning.specs.Meaning.{Entry, place, Kind, sum, product, count, maximum, minimum, members, mixes, multiplied, weighable, Each, OneSigned}
+use Rattle.meaning.specs.Meaning.{Entry, place, Kind, sum, product, count, maximum, minimum, members, multiplied, Each}
 use Rattle.meaning.specs.Merge.{turned-all, collect, nonzero, constant, merge, rule-of}
 use Rattle.meaning.proofs.Gather.{each-map}
 use Rattle.meaning.proofs.Members.{each-both, nonzero-each, collect-each, merge-each}

@@ -4,7 +4,7 @@ use mathlib.Core.Path.{_≡_, refl, sym, ap, _∙_}
 use mathlib.Core.List.{List, [], _∷_}
 use Prim.Native.Nat.{ℕ, zero, suc, _+_, _-_, _<_, min}
 use native.Mathlib.Omega.{arith}
-use lib.IntN.{ℤ, pos}
+use lib.IntN.{ℤ}
 use lib.ListN.{length, getD, take, drop, length-take, length-drop}
 use lib.Seq.{slice}
 use Rattle.types.specs.declared.Limits.{Limits}

@@ -4,13 +4,13 @@ use mathlib.Core.Path.{_≡_, refl, sym, ap, ap₂, _∙_}
 use mathlib.Core.Bool.{Bool, true, false, not, _||_, _&&_}
 use mathlib.Core.List.{List, [], _∷_}
 use Prim.Native.Nat.{ℕ, _<_, _≤_}
-use lib.IntN.{ℤ, pos, negsuc, natAbs}
+use lib.IntN.{ℤ, pos, natAbs}
 use lib.ListN.{length}
 use lib.Dec.{leb, ltb, eqb}
 use lib.Signed.{leZ}
 use borrow.Author.Tests.{lt-ltb, le-ltb, leb-true, leb-false, eq-eqb, ne-eqb}
 use Rattle.types.specs.declared.Limits.{Limits}
-use Rattle.decide.specs.Below.{some-below, product-below}
+use Rattle.decide.specs.Below.{product-below}
 use Rattle.decide.proofs.Below.{none-has}
 use Rattle.meaning.specs.Meaning.{atom, Entry, mixes, product, multiplied}
 use Rattle.meaning.specs.Merge.{merge}

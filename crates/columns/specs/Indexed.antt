@@ -14,7 +14,6 @@ use Rattle.kinds.specs.Kinds.{weight-fits}
 use Rattle.area.specs.Layout.{kind-of}
 use Rattle.columns.specs.Columns.{Columns, Written}
 use Rattle.columns.specs.Refusals.{unknown, no-atom, strange, out-of-range, own-head, mixed, too-great, sentence-refusals, first-refusal}
-use Rattle.columns.specs.declared.Answer.{Answer}
 use Rattle.columns.specs.declared.Sizes.{Sizes}
 
 abbrev pub nth : List ℤ → ℕ → ℤ

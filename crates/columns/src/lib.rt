@@ -18,7 +18,7 @@ ghost use Rattle.meaning.specs.Meaning.{mixes};
 ghost use Rattle.kinds.specs.Kinds.{weight-fits};
 ghost use Rattle.area.specs.Layout.{kind-of, sign};
 ghost use Rattle.columns.specs.Columns.{columns, written, all-written};
-ghost use Rattle.columns.specs.Refusals.{misshapen, no-atom, bound-fits, is-product, all-refusals, first-refusal, load-answer};
+ghost use Rattle.columns.specs.Refusals.{misshapen, no-atom, bound-fits, all-refusals, first-refusal, load-answer};
 ghost use Rattle.columns.specs.Indexed.{above-limits, unequal-sizes, unknown-shape, no-literal, unfit-weights, head-inside, negated, product-above, sentence-code};
 
 const LEAST_BOUND: i64 = -1_000_000_000_000_000_000;

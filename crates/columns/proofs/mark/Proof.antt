@@ -2,7 +2,7 @@
 -- Assumes nothing.
 use mathlib.Core.Path.{_≡_, refl, sym, ap, _∙_}
 use mathlib.Core.Bool.{true, false}
-use Prim.Native.Nat.{ℕ, _+_}
+use Prim.Native.Nat.{_+_}
 use borrow.Author.Needs.{needs}
 use lib.IntN.{ℤ, pos, negsuc}
 use Rattle.signed.specs.Sign.{is-negative}

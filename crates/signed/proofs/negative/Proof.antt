@@ -1,6 +1,5 @@
 -- The test x < 0 is that of the number whose bits were passed.
 -- Assumes nothing.
-use borrow.Author.Needs.{needs}
 use Rattle.signed.proofs.Casts.{told-sign}
 use Rattle.signed.proofs.negative.Statement.{statement}
 use Rattle.signed.proofs.negative.Tie as tie

@@ -2,9 +2,6 @@
 -- Assumes nothing.
 use native.Mathlib.Omega.{arith}
 use Rattle.signed.proofs.Casts.{minus, plus}
-use mathlib.Core.Path.{_≡_, sym, ap, _∙_}
-use Prim.Native.Nat.{ℕ, _+_}
-use borrow.Author.Needs.{needs}
 use Rattle.signed.proofs.size.Statement.{statement}
 use Rattle.signed.proofs.size.Tie as tie
 
