@@ -53,7 +53,7 @@ module _ (P : Entry → Type 0) where
   without-each l [] h = tt
   without-each l (e ∷ es) h = each-cond P (same l (e .literal)) e (without l es) (h .0) (without-each l es (h .1))
 
-  once-each : (es : List Entry) → Each P es → Each P (once es)
+  pub once-each : (es : List Entry) → Each P es → Each P (once es)
   once-each [] h = tt
   once-each (e ∷ es) h = (h .0, without-each (e .literal) (once es) (once-each es (h .1)))
 

@@ -50,7 +50,7 @@ turned-by-positive : (w l : ℤ) → turned-by w l .literal ≡ pos (place (turn
 turned-by-positive w (pos a) = refl
 turned-by-positive w (negsuc a) = refl
 
-turned-all-positive : (es : List Entry) → Each (λ e. e .literal ≡ pos (place e)) (turned-all es)
+pub turned-all-positive : (es : List Entry) → Each (λ e. e .literal ≡ pos (place e)) (turned-all es)
 unfolding turned-all
 turned-all-positive [] = tt
 turned-all-positive (e ∷ es) = (turned-by-positive (e .weight) (e .literal), turned-all-positive es)

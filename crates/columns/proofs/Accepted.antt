@@ -1,0 +1,82 @@
+-- What an accepted load has: no refusal applies, so the columns belong together, the area is long enough and every sentence passes. The
+-- answer of the sentences from s on stays 0 as s grows, and a sentence whose code is not 0 would be the answer.
+-- Assumes nothing.
+use mathlib.Core.Path.{_≡_, refl, sym, ap, _∙_}
+use mathlib.Core.Bool.{Bool, true, false}
+use Prim.Native.Nat.{ℕ, zero, suc, _+_, _<_, _≤_}
+use native.Mathlib.Omega.{arith}
+use lib.Dec.{eqb, ltb}
+use lib.ListN.{length, getD}
+use borrow.Author.Tests.{eqb-true, eqb-false, ltb-true, ltb-false}
+use Rattle.types.specs.declared.Limits.{Limits}
+use Rattle.decide.specs.Below.{sum-first}
+use Rattle.columns.specs.Columns.{Columns, written-at}
+use Rattle.columns.specs.Refusals.{misshapen, need, load-answer}
+use Rattle.columns.specs.Indexed.{sentence-code, Passes}
+use Rattle.columns.specs.declared.Answer.{Answer}
+use Rattle.columns.proofs.Codes.{code-passes}
+use Rattle.columns.proofs.Shapes.{Shaped, shaped, inside}
+use Rattle.columns.proofs.Walk.{answer-from, from-first, from-here, from-later}
+use Rattle.columns.proofs.Answers.{answer-1, answer-2, answer-rest}
+
+pub record Accepted (lim : Limits) (words n : ℕ) (c : Columns) : Type 0 where
+  pub in-shape : misshapen lim n c ≡ false
+  pub enough : need n c ≤ words
+  pub passes : (s : ℕ) → s < length (c .heads) → Passes lim n (written-at c s)
+  -- by `in-shape`
+  pub shape : Shaped lim n c
+  pub entries-within : (s : ℕ) → s < length (c .heads) → sum-first (c .counts) s + getD (c .counts) s 0 ≤ length (c .weights)
+
+module _ (lim : Limits) (n : ℕ) (c : Columns) where
+  abbrev code-at : ℕ → ℕ
+  code-at s = sentence-code lim n (written-at c s)
+
+  code-zero : (s : ℕ) → s < length (c .heads) → answer-from lim n c s .code ≡ 0 → code-at s ≡ 0
+  code-zero s l z = go (eqb (code-at s) 0) refl
+    where
+      go : (b : Bool) → eqb (code-at s) 0 ≡ b → code-at s ≡ 0
+      go true e = eqb-true (code-at s) 0 e
+      go false e =
+          let d : code-at s ≡ 0 → ⊥ = eqb-false (code-at s) 0 e in
+          absurd (d (sym (ap (λ (a : Answer). a .code) (from-here lim n c s l d)) ∙ z))
+
+  stays-zero : (s : ℕ) → s ≤ length (c .heads) → answer-from lim n c 0 .code ≡ 0 → answer-from lim n c s .code ≡ 0
+  stays-zero zero l z = z
+  stays-zero (suc s) l z =
+      let e : s + 1 ≡ suc s = omega arith in
+      let y = stays-zero s (omega arith) z in
+      ap {A = ℕ} (λ k. answer-from lim n c k .code) (sym e)
+      ∙ sym (ap (λ (a : Answer). a .code) (from-later lim n c s (omega arith) (code-zero s (omega arith) y))) ∙ y
+
+module _ (lim : Limits) (words n : ℕ) (c : Columns) (z : load-answer lim words n c .code ≡ 0) where
+  shape-holds : misshapen lim n c ≡ false
+  shape-holds = go (misshapen lim n c) refl
+    where
+      go : (b : Bool) → misshapen lim n c ≡ b → misshapen lim n c ≡ false
+      go true e = let w : 1 ≡ load-answer lim words n c .code = ap (λ (a : Answer). a .code) (answer-1 lim words n c e) in absurd (omega arith)
+      go false e = e
+
+  need-holds : need n c ≤ words
+  need-holds = go (ltb words (need n c)) refl
+    where
+      go : (b : Bool) → ltb words (need n c) ≡ b → need n c ≤ words
+      go true e =
+          let w : 2 ≡ load-answer lim words n c .code = ap (λ (a : Answer). a .code) (answer-2 lim words n c shape-holds (ltb-true words (need n c) e)) in
+          absurd (omega arith)
+      go false e = ltb-false words (need n c) e
+
+  sentences-pass : (s : ℕ) → s < length (c .heads) → Passes lim n (written-at c s)
+  sentences-pass s l =
+      let start : answer-from lim n c 0 .code ≡ 0 = ap (λ (a : Answer). a .code) (sym (from-first lim n c 0 refl) ∙ answer-rest lim words n c shape-holds need-holds) ∙ z in
+      code-passes lim n (written-at c s) (code-zero lim n c s l (stays-zero lim n c s (omega arith) start))
+
+  pub accepted : Accepted lim words n c
+  accepted =
+      let h = shaped lim n c shape-holds in
+      record {
+        in-shape = shape-holds;
+        enough = need-holds;
+        passes = sentences-pass;
+        shape = h;
+        entries-within = λ s l. inside lim n c s (sum-first (c .counts) s) h l refl .weights;
+      }

@@ -1,0 +1,14 @@
+pub mod Clauses
+pub mod Marks
+pub mod Paired
+pub mod Written
+pub mod Codes
+pub mod Shapes
+pub mod Walk
+pub mod Answers
+pub mod Accepted
+pub mod Table
+pub mod Passing
+pub mod MergedSizes
+pub mod RuleWhole
+pub mod Checks

@@ -1,0 +1,141 @@
+-- What the six tests leave of a sentence that passes, entry by entry: its literals are of atoms and not of the head, its weights fit, an
+-- atom of a product, max or min has one sign, and the sentence is one that the book may hold. Assumes nothing.
+use mathlib.Core.Path.{_≡_, refl, sym, ap, subst}
+use mathlib.Core.Bool.{Bool, true, false, not, _||_, _&&_}
+use mathlib.Core.List.{List, [], _∷_}
+use Prim.Native.Nat.{ℕ, zero, suc, _≤_}
+use native.Mathlib.Omega.{arith}
+use lib.IntN.{ℤ, pos, negsuc, negℤ}
+use lib.ListN.{length}
+use lib.Dec.{T, eqb, ltb}
+use lib.Signed.{leZ}
+use borrow.Author.Tests.{eqb-false, ltb-false, not-false}
+use Rattle.types.specs.declared.Limits.{Limits}
+use Rattle.meaning.specs.Meaning.{atom, Entry, place, product, same, mixes, multiplied, weighable, Each, OneSigned}
+use Rattle.meaning.specs.Merge.{merge}
+use Rattle.meaning.proofs.Orders.{T-true, T-false}
+use Rattle.meaning.proofs.Gather.{each-map}
+use Rattle.meaning.proofs.Members.{eq→same}
+use Rattle.kinds.specs.Kinds.{weight-fits}
+use Rattle.kinds.proofs.Weights.{fits-weighable}
+use Rattle.book.specs.Book.{WellFormed}
+use Rattle.area.specs.Layout.{kind-of}
+use Rattle.area.specs.Whole.{weights-of}
+use Rattle.columns.specs.Columns.{Written, sentence-of}
+use Rattle.columns.specs.Refusals.{some, no-atom, bound-fits, both-signs, is-product}
+use Rattle.columns.specs.Indexed.{Passes}
+use Rattle.columns.proofs.Clauses.{left-false, right-false, is-atom}
+use Rattle.columns.proofs.Written.{merged-product}
+
+none-of : (p : Entry → Bool) (es : List Entry) → some p es ≡ false → Each (λ e. p e ≡ false) es
+unfolding some
+none-of p [] h = tt
+none-of p (e ∷ es) h = (left-false (p e) (some p es) h, none-of p es (right-false (p e) (some p es) h))
+
+-- ---- signs
+
+one-literal : (l m : ℤ) → atom l ≡ atom m → ¬ (l ≡ negℤ m) → l ≡ m
+one-literal (pos a) (pos b) e d = ap pos e
+one-literal (pos a) (negsuc b) e d = absurd (d (ap pos e))
+one-literal (negsuc a) (pos b) e d = absurd (d (ap {A = ℕ} (λ k. negℤ (pos k)) e))
+one-literal (negsuc a) (negsuc b) e d = ap negsuc (omega arith)
+
+pub one-signed : (es : List Entry) → both-signs es ≡ false → OneSigned es
+unfolding both-signs
+one-signed [] h = tt
+one-signed (e ∷ es) h =
+    let opposite = some (λ x. same (x .literal) (negℤ (e .literal))) es in (
+      each-map (λ x. same (x .literal) (negℤ (e .literal)) ≡ false) (λ x. place x ≡ place e → x .literal ≡ e .literal) es
+          (λ x f q. one-literal (x .literal) (e .literal) q (λ r. T-false f (eq→same (x .literal) (negℤ (e .literal)) r)))
+          (none-of (λ x. same (x .literal) (negℤ (e .literal))) es (left-false opposite (both-signs es) h)),
+      one-signed es (right-false opposite (both-signs es) h),
+    )
+
+-- ---- a sentence that passes
+
+and-false : (a b : Bool) → (a && b) ≡ false → T a → b ≡ false
+and-false true b e t = e
+and-false false b e t = absurd t
+
+product-number : (k : ℕ) → kind-of k ≡ product → k ≡ 1
+product-number zero e = cc
+product-number (suc zero) e = refl
+product-number (suc (suc zero)) e = cc
+product-number (suc (suc (suc zero))) e = cc
+product-number (suc (suc (suc (suc k)))) e = cc
+
+module _ (lim : Limits) (n : ℕ) (x : Written) (v : Passes lim n x) where
+  few-kinds : (x .kind ≤ 4) × (x .side ≤ 1) × (length (x .entries) ≤ lim .each)
+  few-kinds =
+      let a = ltb 4 (x .kind) in
+      let b = ltb 1 (x .side) in
+      let d = ltb (lim .each) (length (x .entries)) in
+      let e : (a || b) ≡ false = left-false (a || b) d (v .known) in (
+        ltb-false 4 (x .kind) (left-false a b e),
+        ltb-false 1 (x .side) (right-false a b e),
+        ltb-false (lim .each) (length (x .entries)) (right-false (a || b) d (v .known)),
+      )
+
+  pub kind-known : x .kind ≤ 4
+  kind-known = few-kinds .0
+
+  pub side-known : x .side ≤ 1
+  side-known = few-kinds .1
+
+  pub entries-few : length (x .entries) ≤ lim .each
+  entries-few = few-kinds .2
+
+  abbrev strangers : Bool
+  strangers = some (λ e. no-atom n (place e)) (x .entries)
+
+  pub head-atom : (1 ≤ x .head) × (x .head ≤ n)
+  head-atom = is-atom n (x .head) (left-false (no-atom n (x .head)) strangers (v .atoms))
+
+  pub entry-atoms : Each (λ e. (1 ≤ place e) × (place e ≤ n)) (x .entries)
+  entry-atoms =
+      each-map (λ e. no-atom n (place e) ≡ false) (λ e. (1 ≤ place e) × (place e ≤ n)) (x .entries) (λ e. is-atom n (place e))
+      (none-of (λ e. no-atom n (place e)) (x .entries) (right-false (no-atom n (x .head)) strangers (v .atoms)))
+
+  abbrev unfit : Bool
+  unfit = some (λ e. not (weight-fits (kind-of (x .kind)) (e .weight))) (x .entries)
+
+  pub entries-fit : Each (λ e. T (weight-fits (kind-of (x .kind)) (e .weight))) (x .entries)
+  entries-fit =
+      each-map (λ e. not (weight-fits (kind-of (x .kind)) (e .weight)) ≡ false) (λ e. T (weight-fits (kind-of (x .kind)) (e .weight))) (x .entries)
+      (λ e f. T-true (not-false (weight-fits (kind-of (x .kind)) (e .weight)) f))
+      (none-of (λ e. not (weight-fits (kind-of (x .kind)) (e .weight))) (x .entries) (left-false unfit (not (bound-fits (x .bound))) (v .ranges)))
+
+  pub bound-within : T (bound-fits (x .bound))
+  bound-within = T-true (not-false (bound-fits (x .bound)) (right-false unfit (not (bound-fits (x .bound))) (v .ranges)))
+
+  pub entries-headless : Each (λ e. ¬ (place e ≡ x .head)) (x .entries)
+  entries-headless =
+      each-map (λ e. eqb (place e) (x .head) ≡ false) (λ e. ¬ (place e ≡ x .head)) (x .entries) (λ e. eqb-false (place e) (x .head))
+      (none-of (λ e. eqb (place e) (x .head)) (x .entries) (v .headless))
+
+  pub entries-unmixed : T (not (mixes (kind-of (x .kind)))) → both-signs (x .entries) ≡ false
+  entries-unmixed t = and-false (not (mixes (kind-of (x .kind)))) (both-signs (x .entries)) (v .unmixed) t
+
+  pub merged-product-within : kind-of (x .kind) ≡ product → T (leZ (multiplied (weights-of (merge product (x .entries) .entries))) (pos 1000000000000000000))
+  merged-product-within e =
+      let m = leZ (multiplied (weights-of (merge product (x .entries) .entries))) (pos 1000000000000000000) in
+      let t : T (is-product (x .kind)) = subst (λ (k : ℕ). T (is-product k)) (sym (product-number (x .kind) e)) tt in
+      T-true (not-false m (and-false (is-product (x .kind)) (not m) (v .small) t))
+
+  pub written-product-within : kind-of (x .kind) ≡ product → T (leZ (multiplied (weights-of (x .entries))) (pos 1000000000000000000))
+  written-product-within e = subst (λ (z : ℤ). T (leZ z (pos 1000000000000000000))) (merged-product (x .entries)) (merged-product-within e)
+
+  pub well-formed : WellFormed n (sentence-of x)
+  well-formed = record {
+    head-low = head-atom .0;
+    head-high = head-atom .1;
+    atoms-high = each-map (λ e. (1 ≤ place e) × (place e ≤ n)) (λ e. place e ≤ n) (x .entries) (λ e p. p .1) entry-atoms;
+    admissible = record {
+      literals = each-map (λ e. (1 ≤ place e) × (place e ≤ n)) (λ e. 1 ≤ place e) (x .entries) (λ e p. p .0) entry-atoms;
+      weights =
+          each-map (λ e. T (weight-fits (kind-of (x .kind)) (e .weight))) (λ e. T (weighable (kind-of (x .kind)) (e .weight))) (x .entries)
+          (λ e t. fits-weighable (kind-of (x .kind)) (e .weight) t) entries-fit;
+      headless = entries-headless;
+      signs = λ t. one-signed (x .entries) (entries-unmixed t);
+    };
+  }
