@@ -1,7 +1,139 @@
-// The merge of a written set into a part of the work area.
+// The merge of a written set into a part of the work area, in three passes: each entry is put onto the entry with its literal or behind
+// all others; in sums and counts the entries of weight 0 are left out; the words behind are set to 0.
+ghost use mathlib.Core.Path.{_≡_};
+ghost use mathlib.Core.Bool.{Bool, true, false};
+ghost use mathlib.Core.List.{List, [], _∷_, _++_};
+ghost use Prim.Native.Nat.{ℕ, _+_, _*_, _<_, _≤_};
+ghost use lib.IntN.{ℤ, natAbs};
+ghost use lib.ListN.{length, getD, set};
+ghost use Rattle.numbers.specs.Words.{bias, unbias, literal-word};
+ghost use Rattle.meaning.specs.Meaning.{Entry, mixes};
+ghost use Rattle.meaning.specs.Merge.{joined};
+ghost use Rattle.area.specs.Layout.{kind-of};
+ghost use Rattle.columns.specs.Columns.{paired};
+ghost use Rattle.merge.specs.Passes.{TurnedIs, Joinable, Puttable, PutInto, taken, Gathered, Takeable, Sifted, Wiped};
+ghost use Rattle.merge.specs.Into.{Mergeable, MergedInto};
+
+const HALF: u64 = 4_611_686_018_427_387_904;
+
+const SUM: u64 = 0;
+
+const PRODUCT: u64 = 1;
+
+const COUNT: u64 = 2;
+
+const MAX: u64 = 3;
 
 // How many entries are left, and the word of the constant.
 pub struct Merged {
     pub count: usize,
     pub constant: u64,
+}
+
+// An entry as it is collected, and what it adds to the constant, as words.
+pub struct Turned {
+    pub weight: u64,
+    pub literal: u64,
+    pub freed: u64,
+}
+
+fn weight_word(w: i64) -> u64
+    requires { ⌜ natAbs w ≤ 1000000000 ⌝ }
+    ensures { λ r. ⌜ r ≡ bias w ⌝ }
+{
+    let size = signed::size(w);
+    if signed::negative(w) {
+        return HALF - size;
+    }
+    HALF + size
+}
+
+fn literal_word(l: i64) -> u64
+    requires { ⌜ natAbs l ≤ 4096 ⌝ }
+    ensures { λ r. ⌜ r ≡ literal-word l ⌝ }
+{
+    let size = signed::size(l);
+    if signed::negative(l) {
+        return 2 * size + 1;
+    }
+    2 * size
+}
+
+// Whether both signs of an atom may stand in a set of the kind.
+fn mixing(kind: u64) -> bool
+    ensures { λ r. ⌜ r ≡ mixes (kind-of kind) ⌝ }
+{
+    if kind == SUM {
+        return true;
+    }
+    kind == COUNT
+}
+
+// In sums and counts a weight w on -a is -w on a, and w in the constant.
+fn turn(kind: u64, x: u64, l: u64) -> Turned
+    requires { ⌜ (x ≤ 9223372036854775808) × (2 ≤ l) × (l ≤ 8193) ⌝ }
+    ensures { λ r. ⌜ TurnedIs kind x l r ⌝ }
+{
+    if !mixing(kind) {
+        return Turned {
+            weight: x,
+            literal: l,
+            freed: HALF,
+        };
+    }
+    if l % 2 == 0 {
+        return Turned {
+            weight: x,
+            literal: l,
+            freed: HALF,
+        };
+    }
+    Turned {
+        weight: 2 * HALF - x,
+        literal: l - 1,
+        freed: x,
+    }
+}
+
+// The word of the weight that joins two of one literal.
+fn join(kind: u64, x: u64, y: u64) -> u64
+    requires { ⌜ Joinable (kind-of kind) (unbias x) (unbias y) ⌝ }
+    ensures { λ r. ⌜ unbias r ≡ joined (kind-of kind) (unbias x) (unbias y) ⌝ }
+{
+    if mixing(kind) {
+        return x + y - HALF;
+    }
+    if kind == PRODUCT {
+        return HALF + (x - HALF) * (y - HALF);
+    }
+    if kind == MAX {
+        if x <= y {
+            return y;
+        }
+        return x;
+    }
+    if x <= y {
+        return x;
+    }
+    y
+}
+
+// One entry more: onto the entry with its literal, or behind all others. Says how many there are then. In the table stands 1 more than
+// the place of a literal's entry, at the literal's word, or 0.
+fn put(part: &mut [u64], table: &mut [u16; 8194], count: usize, kind: u64, x: u64, l: u64) -> usize
+    requires { ⌜ Puttable (now part) (now table) count kind x l ⌝ }
+    ensures { λ r. ⌜ PutInto (now (part .entry)) (now (part .exit)) (now (table .exit)) count kind x l r ⌝ }
+{
+    let at = l as usize;
+    let p = table[at] as usize;
+    if p == 0 {
+        part[2 * count] = x;
+        part[2 * count + 1] = l;
+        table[at] = (count + 1) as u16;
+        return count + 1;
+    }
+    let k = 2 * (p - 1);
+    let y = part[k];
+    part[k] = join(kind, y, x);
+    count
 }

@@ -1,0 +1,6 @@
+pub mod Prefix
+pub mod Slots
+pub mod Held
+pub mod Signs
+pub mod Joining
+pub mod Putting
