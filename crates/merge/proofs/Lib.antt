@@ -4,3 +4,5 @@ pub mod Held
 pub mod Signs
 pub mod Joining
 pub mod Putting
+pub mod Bounds
+pub mod Gathering

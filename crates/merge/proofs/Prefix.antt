@@ -2,14 +2,15 @@
 -- it at their end. A count leaves an entry out if its literal was mentioned before.
 -- Assumes nothing.
 use mathlib.Core.Path.{_≡_, refl, sym, ap, _∙_}
-use mathlib.Core.Bool.{Bool, true, false, not, cond, _||_, _&&_}
+use mathlib.Core.Bool.{Bool, true, false, not, cond, _||_}
 use mathlib.Core.List.{List, [], _∷_, _++_}
-use lib.IntN.{ℤ, pos, _+ℤ_}
+use lib.IntN.{ℤ, pos, _+ℤ_, +ℤ-assoc, +ℤ-comm}
 use lib.Signed.{leZ}
 use lib.Dec.{T}
-use Rattle.numbers.proofs.Integers.{ints, sum-parts}
+use Rattle.numbers.proofs.Integers.{ints}
 use Rattle.meaning.specs.Meaning.{Entry, Kind, sum, product, count, maximum, minimum, same, without, once, ones, members}
 use Rattle.meaning.specs.Merge.{turned-by, freed-by, turned-all, freed-all, turned, constant, put, collect, nonzero}
+use Rattle.meaning.proofs.Verdicts.{and-first, and-second}
 use Rattle.kinds.specs.Kinds.{weight-fits}
 use Rattle.columns.specs.Refusals.{some}
 use Rattle.merge.specs.Passes.{turn, freed, mentioned, taken}
@@ -33,18 +34,12 @@ turned-next count es e = turned-all-next es e
 turned-next maximum es e = refl
 turned-next minimum es e = refl
 
-sum-zero : (a : ℤ) → a +ℤ pos 0 ≡ pos 0 +ℤ a
-sum-zero a = omega (ints, sum-parts a (pos 0), sum-parts (pos 0) a)
-
-sum-assoc : (a b c : ℤ) → a +ℤ (b +ℤ c) ≡ (a +ℤ b) +ℤ c
-sum-assoc a b c = omega (ints, sum-parts a (b +ℤ c), sum-parts b c, sum-parts (a +ℤ b) c, sum-parts a b)
-
 freed-all-next : (es : List Entry) (e : Entry) → freed-all (es ++ (e ∷ [])) ≡ freed-all es +ℤ freed-by (e .weight) (e .literal)
 unfolding freed-all
-freed-all-next [] e = sum-zero (freed-by (e .weight) (e .literal))
+freed-all-next [] e = +ℤ-comm (freed-by (e .weight) (e .literal)) (pos 0)
 freed-all-next (x ∷ es) e =
     ap (λ r. freed-by (x .weight) (x .literal) +ℤ r) (freed-all-next es e)
-    ∙ sum-assoc (freed-by (x .weight) (x .literal)) (freed-all es) (freed-by (e .weight) (e .literal))
+    ∙ sym (+ℤ-assoc (freed-by (x .weight) (x .literal)) (freed-all es) (freed-by (e .weight) (e .literal)))
 
 pub constant-next : (k : Kind) (es : List Entry) (e : Entry) → constant k (es ++ (e ∷ [])) ≡ constant k es +ℤ freed k e
 constant-next sum es e = freed-all-next es e
@@ -103,12 +98,8 @@ unfolding some
 mentioned-ones l [] = refl
 mentioned-ones l (x ∷ es) = ap (λ b. same (x .literal) l || b) (mentioned-ones l es)
 
-both : (a b : Bool) → T (a && b) → T a × T b
-both true b t = (tt, t)
-both false b t = absurd t
-
 one-weight : (w : ℤ) → T (weight-fits count w) → w ≡ pos 1
-one-weight w t = let h = both (leZ (pos 1) w) (leZ w (pos 1)) t in let l = h .0 in let m = h .1 in omega ints
+one-weight w t = let l = and-first (leZ (pos 1) w) (leZ w (pos 1)) t in let m = and-second (leZ (pos 1) w) (leZ w (pos 1)) t in omega ints
 
 pub members-next : (k : Kind) (es : List Entry) (e : Entry) → T (weight-fits k (e .weight))
     → members k (es ++ (e ∷ [])) ≡ cond (taken k (mentioned (e .literal) es)) (members k es ++ (e ∷ [])) (members k es)

@@ -1,7 +1,7 @@
 -- The words of signed numbers from size and sign, and what the turned entry is, by the kind and the literal's sign.
 -- Assumes nothing.
 use mathlib.Core.Path.{_≡_, refl, sym, ap, _∙_}
-use mathlib.Core.Bool.{Bool, true, false}
+use mathlib.Core.Bool.{Bool, true, false, not}
 use Prim.Native.Nat.{ℕ, zero, suc, _+_, _-_, _*_, _/_, _%_, _≤_, _<_}
 use native.Mathlib.Omega.{arith}
 use lib.IntN.{ℤ, pos, negsuc, negℤ, natAbs}
@@ -17,7 +17,7 @@ use Rattle.signed.proofs.Casts.{back}
 use Rattle.meaning.specs.Meaning.{Entry, Kind, sum, product, count, maximum, minimum, mixes}
 use Rattle.meaning.specs.Merge.{turned-by, freed-by}
 use Rattle.area.specs.Layout.{kind-of}
-use Rattle.merge.specs.Passes.{entry-of, turn, freed, TurnedIs}
+use Rattle.merge.specs.Passes.{entry-of, turn, freed, TurnedIs, taken}
 
 -- ---- from size and sign
 
@@ -59,6 +59,16 @@ is-minimum (suc zero) m p q = absurd (p refl)
 is-minimum (suc (suc zero)) m p q = cc
 is-minimum (suc (suc (suc zero))) m p q = absurd (q refl)
 is-minimum (suc (suc (suc (suc k)))) m p q = refl
+
+pub taken-count : (kind : ℕ) (b : Bool) → kind ≡ 2 → not b ≡ taken (kind-of kind) b
+taken-count kind b e = rw e
+
+pub taken-other : (kind : ℕ) (b : Bool) → (kind ≡ 2 → ⊥) → true ≡ taken (kind-of kind) b
+taken-other zero b h = refl
+taken-other (suc zero) b h = refl
+taken-other (suc (suc zero)) b h = absurd (h refl)
+taken-other (suc (suc (suc zero))) b h = refl
+taken-other (suc (suc (suc (suc k)))) b h = refl
 
 -- ---- turned entries
 

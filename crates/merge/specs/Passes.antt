@@ -17,6 +17,7 @@ use Rattle.area.specs.Layout.{word, kind-of, entries-of}
 use Rattle.area.specs.Whole.{weights-of}
 use Rattle.columns.specs.Refusals.{some}
 use Rattle.merge.specs.declared.Turned.{Turned}
+use Rattle.merge.specs.declared.Merged.{Merged}
 
 -- ---- one entry
 
@@ -122,15 +123,25 @@ pub record Gathered (kind : ℕ) (es : List Entry) (part table : List ℕ) (seen
   pub constant-is : unbias c ≡ constant (kind-of kind) (members (kind-of kind) es)
   pub near : natAbs (unbias c) ≤ 1000000000 * length es
 
--- one entry more may be taken after es, into a part of so many words
-pub record Takeable (kind : ℕ) (es : List Entry) (e : Entry) (words : ℕ) : Type 0 where
+-- an entry, as words, may be taken after es, into a part of so many words
+pub record Takeable (kind : ℕ) (es : List Entry) (x l words : ℕ) : Type 0 where
   pub few : length es < 4096
   pub room : 2 * length es + 1 < words
-  pub low : 1 ≤ place e
-  pub high : place e ≤ 4096
-  pub fits : T (weight-fits (kind-of kind) (e .weight))
-  pub fit : Each (λ x. T (weight-fits (kind-of kind) (x .weight))) es
-  pub product : kind ≡ 1 → T (leZ (multiplied (weights-of (es ++ (e ∷ [])))) (pos 1000000000000000000))
+  pub low : 2 ≤ l
+  pub high : l ≤ 8193
+  pub fits : T (weight-fits (kind-of kind) (unbias x))
+  pub fit : Each (λ e. T (weight-fits (kind-of kind) (e .weight))) es
+  pub product : kind-of kind ≡ product → T (leZ (multiplied (weights-of (es ++ (entry-of x l ∷ [])))) (pos 1000000000000000000))
+
+pub record Addable (part table : List ℕ) (seen : List Bool) (kind x l : ℕ) (m : Merged) : Type 0 where
+  pub before : List Entry
+  pub gathered : Gathered kind before part table seen (m .count) (m .constant)
+  pub takeable : Takeable kind before x l (length part)
+
+-- whatever entries were taken before, this one is taken after them
+pub record Added (part table : List ℕ) (seen : List Bool) (part′ table′ : List ℕ) (seen′ : List Bool) (kind x l : ℕ) (m r : Merged) : Type 0 where
+  pub next : (es : List Entry) → Gathered kind es part table seen (m .count) (m .constant) → Takeable kind es x l (length part)
+      → Gathered kind (es ++ (entry-of x l ∷ [])) part′ table′ seen′ (r .count) (r .constant)
 
 -- ---- the second pass and the third
 

@@ -11,7 +11,7 @@ ghost use Rattle.meaning.specs.Meaning.{Entry, mixes};
 ghost use Rattle.meaning.specs.Merge.{joined};
 ghost use Rattle.area.specs.Layout.{kind-of};
 ghost use Rattle.columns.specs.Columns.{paired};
-ghost use Rattle.merge.specs.Passes.{TurnedIs, Joinable, Puttable, PutInto, taken, Gathered, Takeable, Sifted, Wiped};
+ghost use Rattle.merge.specs.Passes.{TurnedIs, Joinable, Puttable, PutInto, taken, Addable, Added, Sifted, Wiped};
 ghost use Rattle.merge.specs.Into.{Mergeable, MergedInto};
 
 const HALF: u64 = 4_611_686_018_427_387_904;
@@ -136,4 +136,40 @@ fn put(part: &mut [u64], table: &mut [u16; 8194], count: usize, kind: u64, x: u6
     let y = part[k];
     part[k] = join(kind, y, x);
     count
+}
+
+// Whether an entry is taken: a count takes a literal once. The literal is noted.
+fn takes(seen: &mut [bool; 8194], kind: u64, l: u64) -> bool
+    requires { ⌜ l ≤ 8193 ⌝ }
+    ensures { λ r. ⌜ (r ≡ taken (kind-of kind) (getD (now (seen .entry)) l false)) × (now (seen .exit) ≡ set (now (seen .entry)) l true) ⌝ }
+{
+    let at = l as usize;
+    let before = seen[at];
+    seen[at] = true;
+    if kind == COUNT {
+        return !before;
+    }
+    true
+}
+
+// One written entry more, as words.
+fn add(
+    part: &mut [u64],
+    table: &mut [u16; 8194],
+    seen: &mut [bool; 8194],
+    kind: u64,
+    x: u64,
+    l: u64,
+    m: Merged,
+) -> Merged
+    requires { ⌜ Addable (now part) (now table) (now seen) kind x l m ⌝ }
+    ensures { λ r. ⌜ Added (now (part .entry)) (now (table .entry)) (now (seen .entry)) (now (part .exit)) (now (table .exit)) (now (seen .exit)) kind x l m r ⌝ }
+{
+    if !takes(seen, kind, l) {
+        return m;
+    }
+    let t = turn(kind, x, l);
+    let constant = m.constant + t.freed - HALF;
+    let count = put(part, table, m.count, kind, t.weight, t.literal);
+    Merged { count, constant }
 }
