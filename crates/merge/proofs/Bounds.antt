@@ -108,7 +108,7 @@ times-one w = *ℤ-one w
 pub factor : (v w : ℤ) → T (leZ (pos 1) v) → T (leZ (pos 1) w) → T (leZ v (v *ℤ w))
 factor v w h g = rw (times-one v) at (product-mono v v (pos 1) w (natural v h) tt (leZ-refl v) g)
 
-products-one : (xs : List Entry) → Each One xs → T (leZ (pos 1) (multiplied (weights-of xs)))
+pub products-one : (xs : List Entry) → Each One xs → T (leZ (pos 1) (multiplied (weights-of xs)))
 products-one [] h = tt
 products-one (x ∷ xs) h =
     leZ-trans (pos 1) (x .weight) (x .weight *ℤ multiplied (weights-of xs)) (h .0) (factor (x .weight) (multiplied (weights-of xs)) (h .0) (products-one xs (h .1)))

@@ -76,13 +76,15 @@ module _ (kind : ℕ) (es : List Entry) (part table : List ℕ) (seen : List Boo
 
   pub left-out : taken (kind-of kind) (getD seen l false) ≡ false → Gathered kind (es ++ (entry-of x l ∷ [])) part table (set seen l true) n c
   left-out e = record {
-    entries = g .entries ∙ ap (λ ms. collect (kind-of kind) [] (turned (kind-of kind) ms)) (sym (members-by false e));
-    literals = g .literals;
-    few = let f = g .few in omega (arith, one-longer);
+    collected = record {
+      entries = g .collected .entries ∙ ap (λ ms. collect (kind-of kind) [] (turned (kind-of kind) ms)) (sym (members-by false e));
+      literals = g .collected .literals;
+      few = let f = g .collected .few in omega (arith, one-longer);
+      constant-is = g .collected .constant-is ∙ ap (constant (kind-of kind)) (sym (members-by false e));
+    };
     small = λ m. each-map (λ e. natAbs (e .weight) ≤ 1000000000 * length es) (λ e. natAbs (e .weight) ≤ 1000000000 * length (es ++ (entry-of x l ∷ []))) (first-entries part n) (λ y h. omega (arith, one-longer)) (g .small m);
     places = g .places;
     seen-is = seen-next seen es x l (g .seen-is) (t .low) (t .high);
-    constant-is = g .constant-is ∙ ap (constant (kind-of kind)) (sym (members-by false e));
     near = let h = g .near in omega (arith, one-longer);
   }
 
@@ -104,12 +106,12 @@ module _ (kind : ℕ) (es : List Entry) (part table : List ℕ) (seen : List Boo
 
     pub puttable : Puttable part table n kind (r .weight) (r .literal)
     puttable = record {
-      room = let f = g .few in let h = t .room in omega arith;
-      few = let f = g .few in let h = t .few in omega arith;
+      room = let f = g .collected .few in let h = t .room in omega arith;
+      few = let f = g .collected .few in let h = t .few in omega arith;
       low = is .low;
       high = is .high;
       places = g .places;
-      joinable = rw turned-weight (all-joinable (kind-of kind) es (entry-of x l) (first-entries part n) (g .entries) (let f = t .few in omega arith) (g .small) (t .fit) (t .fits) (t .product));
+      joinable = rw turned-weight (all-joinable (kind-of kind) es (entry-of x l) (first-entries part n) (g .collected .entries) (let f = t .few in omega arith) (g .small) (t .fit) (t .fits) (t .product));
     }
 
     module _ (part' table' : List ℕ) (n' : ℕ) (p : PutInto part part' table' n kind (r .weight) (r .literal) n') (e : taken (kind-of kind) (getD seen l false) ≡ true) where
@@ -118,7 +120,7 @@ module _ (kind : ℕ) (es : List Entry) (part table : List ℕ) (seen : List Boo
 
       entries-are : first-entries part' n' ≡ collect (kind-of kind) [] (turned (kind-of kind) (members (kind-of kind) (es ++ (entry-of x l ∷ []))))
       entries-are =
-          put-is ∙ ap (λ xs. put (kind-of kind) xs (turn (kind-of kind) (entry-of x l))) (g .entries)
+          put-is ∙ ap (λ xs. put (kind-of kind) xs (turn (kind-of kind) (entry-of x l))) (g .collected .entries)
           ∙ sym (collect-next (kind-of kind) [] (turned (kind-of kind) (members (kind-of kind) es)) (turn (kind-of kind) (entry-of x l)))
           ∙ ap (collect (kind-of kind) []) (sym (turned-next (kind-of kind) (members (kind-of kind) es) (entry-of x l)))
           ∙ ap (λ ms. collect (kind-of kind) [] (turned (kind-of kind) ms)) (sym (members-by true e))
@@ -137,14 +139,16 @@ module _ (kind : ℕ) (es : List Entry) (part table : List ℕ) (seen : List Boo
 
       pub taken-in : Gathered kind (es ++ (entry-of x l ∷ [])) part' table' (set seen l true) n' (c + r .freed - half)
       taken-in = record {
-        entries = entries-are;
-        literals = p .literals (g .literals);
-        few = let f = g .few in let q = p .most in omega (arith, one-longer);
+        collected = record {
+          entries = entries-are;
+          literals = p .literals (g .collected .literals);
+          few = let f = g .collected .few in let q = p .most in omega (arith, one-longer);
+          constant-is =
+            new-constant ∙ ap (λ v. v +ℤ unbias (r .freed)) (g .collected .constant-is) ∙ ap (λ v. constant (kind-of kind) (members (kind-of kind) es) +ℤ v) (is .freed-is)
+            ∙ sym (constant-next (kind-of kind) (members (kind-of kind) es) (entry-of x l)) ∙ ap (constant (kind-of kind)) (sym (members-by true e));
+        };
         small = all-small;
         places = p .places;
         seen-is = seen-next seen es x l (g .seen-is) (t .low) (t .high);
-        constant-is =
-          new-constant ∙ ap (λ v. v +ℤ unbias (r .freed)) (g .constant-is) ∙ ap (λ v. constant (kind-of kind) (members (kind-of kind) es) +ℤ v) (is .freed-is)
-          ∙ sym (constant-next (kind-of kind) (members (kind-of kind) es) (entry-of x l)) ∙ ap (constant (kind-of kind)) (sym (members-by true e));
         near = let h = g .near in omega (arith, one-longer, ap natAbs new-constant, sum-size (unbias c) (unbias (r .freed)), freed-small);
       }

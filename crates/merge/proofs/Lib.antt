@@ -6,3 +6,5 @@ pub mod Joining
 pub mod Putting
 pub mod Bounds
 pub mod Gathering
+pub mod Sifting
+pub mod Taking

@@ -35,7 +35,7 @@ either P l m here other = go (same l m) (same→eq l m) (eq→same l m)
     go true f g = here (f tt)
     go false f g = other g
 
-each-at : {A : Type 0} (P : A → Type 0) (xs : List A) (i : ℕ) (d : A) → i < length xs → Each P xs → P (getD xs i d)
+pub each-at : {A : Type 0} (P : A → Type 0) (xs : List A) (i : ℕ) (d : A) → i < length xs → Each P xs → P (getD xs i d)
 each-at P [] i d h e = let b : ⊥ = omega arith in absurd b
 each-at P (x ∷ xs) zero d h e = e .0
 each-at P (x ∷ xs) (suc i) d h e = each-at P xs i d (omega arith) (e .1)

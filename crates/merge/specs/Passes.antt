@@ -112,15 +112,19 @@ taken minimum b = true
 
 -- ---- the first pass
 
--- after the entries es: their members are collected
-pub record Gathered (kind : ℕ) (es : List Entry) (part table : List ℕ) (seen : List Bool) (n c : ℕ) : Type 0 where
+-- the members of es are collected: n entries, and the constant's word c
+pub record Collected (kind : ℕ) (es : List Entry) (part : List ℕ) (n c : ℕ) : Type 0 where
   pub entries : first-entries part n ≡ collect (kind-of kind) [] (turned (kind-of kind) (members (kind-of kind) es))
   pub literals : Literals part n
   pub few : n ≤ length es
-  pub small : T (mixes (kind-of kind)) → Each (λ e. natAbs (e .weight) ≤ 1000000000 * length es) (first-entries part n)
+  pub constant-is : unbias c ≡ constant (kind-of kind) (members (kind-of kind) es)
+
+-- the same while more are to come: with the tables, and far from the words' ends
+pub record Gathered (kind : ℕ) (es : List Entry) (part table : List ℕ) (seen : List Bool) (n c : ℕ) : Type 0 where
+  pub collected : Collected kind es part n c
   pub places : Places table (first-entries part n)
   pub seen-is : Seen seen es
-  pub constant-is : unbias c ≡ constant (kind-of kind) (members (kind-of kind) es)
+  pub small : T (mixes (kind-of kind)) → Each (λ e. natAbs (e .weight) ≤ 1000000000 * length es) (first-entries part n)
   pub near : natAbs (unbias c) ≤ 1000000000 * length es
 
 -- an entry, as words, may be taken after es, into a part of so many words

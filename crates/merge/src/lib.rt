@@ -11,7 +11,7 @@ ghost use Rattle.meaning.specs.Meaning.{Entry, mixes};
 ghost use Rattle.meaning.specs.Merge.{joined};
 ghost use Rattle.area.specs.Layout.{kind-of};
 ghost use Rattle.columns.specs.Columns.{paired};
-ghost use Rattle.merge.specs.Passes.{TurnedIs, Joinable, Puttable, PutInto, taken, Addable, Added, Sifted, Wiped};
+ghost use Rattle.merge.specs.Passes.{TurnedIs, Joinable, Puttable, PutInto, taken, Addable, Added, Collected, Sifted, Wiped};
 ghost use Rattle.merge.specs.Into.{Mergeable, MergedInto};
 
 const HALF: u64 = 4_611_686_018_427_387_904;
@@ -172,4 +172,77 @@ fn add(
     let constant = m.constant + t.freed - HALF;
     let count = put(part, table, m.count, kind, t.weight, t.literal);
     Merged { count, constant }
+}
+
+// The first pass: all entries, merged as they come.
+fn gather(part: &mut [u64], kind: u64, weights: &[i64], literals: &[i64]) -> Merged
+    requires { ⌜ Mergeable (now part) kind (now weights) (now literals) ⌝ }
+    ensures { λ r. ⌜ Collected kind (paired (now (weights .entry)) (now (literals .entry))) (now (part .exit)) (r .count) (r .constant) ⌝ }
+{
+    let mut table = [0u16; 8194];
+    let mut seen = [false; 8194];
+    let mut m = Merged {
+        count: 0,
+        constant: HALF,
+    };
+    let mut i = 0;
+    while i < weights.len() {
+        let x = weight_word(weights[i]);
+        let l = literal_word(literals[i]);
+        i += 1;
+        m = add(part, &mut table, &mut seen, kind, x, l, m);
+    }
+    m
+}
+
+// The second pass, in sums and counts: the entries of weight 0 are left out. Says how many there are then.
+fn sift(part: &mut [u64], count: usize) -> usize
+    requires { ⌜ (2 * count ≤ length (now part)) × (count ≤ 4096) ⌝ }
+    ensures { λ r. ⌜ Sifted (now (part .entry)) (now (part .exit)) count r ⌝ }
+{
+    let mut m = 0;
+    let mut k = 0;
+    while k < count {
+        let x = part[2 * k];
+        let l = part[2 * k + 1];
+        k += 1;
+        if x != HALF {
+            part[2 * m] = x;
+            part[2 * m + 1] = l;
+            m += 1;
+        }
+    }
+    m
+}
+
+// The third pass: words 0 from a place on.
+fn wipe(part: &mut [u64], from: usize)
+    ensures { λ r. ⌜ Wiped (now (part .entry)) (now (part .exit)) from ⌝ }
+{
+    let mut i = from;
+    while i < part.len() {
+        part[i] = 0;
+        i += 1;
+    }
+}
+
+pub fn merge_into(part: &mut [u64], kind: u64, weights: &[i64], literals: &[i64]) -> Merged
+    requires { ⌜ Mergeable (now part) kind (now weights) (now literals) ⌝ }
+    ensures { λ r. ⌜ MergedInto (now (part .exit)) kind (now (weights .entry)) (now (literals .entry)) r ⌝ }
+{
+    let m = gather(part, kind, weights, literals);
+    let all = m.count;
+    if mixing(kind) {
+        let count = sift(part, all);
+        wipe(part, 2 * count);
+        return Merged {
+            count,
+            constant: m.constant,
+        };
+    }
+    wipe(part, 2 * all);
+    Merged {
+        count: all,
+        constant: 0,
+    }
 }
