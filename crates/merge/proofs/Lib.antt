@@ -8,3 +8,4 @@ pub mod Bounds
 pub mod Gathering
 pub mod Sifting
 pub mod Taking
+pub mod Passes
