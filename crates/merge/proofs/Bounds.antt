@@ -118,11 +118,12 @@ each-factor : (xs : List Entry) → Each One xs → Each (λ x. T (leZ (x .weigh
 each-factor [] h = tt
 each-factor (x ∷ xs) h =
     let m = multiplied (weights-of xs) in
-    let o = products-one xs (h .1) in
-    (factor (x .weight) m (h .0) o,
+    let o = products-one xs (h .1) in (
+      factor (x .weight) m (h .0) o,
       each-map (λ y. T (leZ (y .weight) m)) (λ y. T (leZ (y .weight) (x .weight *ℤ m))) xs
-      (λ y p. leZ-trans (y .weight) m (x .weight *ℤ m) p (rw (*ℤ-comm (x .weight) m) (factor m (x .weight) o (h .0))))
-      (each-factor xs (h .1)))
+          (λ y p. leZ-trans (y .weight) m (x .weight *ℤ m) p (rw (*ℤ-comm (x .weight) m) (factor m (x .weight) o (h .0))))
+          (each-factor xs (h .1)),
+    )
 
 weights-same : (es : List Entry) → weights es ≡ weights-of es
 weights-same [] = refl
@@ -144,13 +145,16 @@ product-joinable es e h g t =
     let w = fits-weighable product (e .weight) g in
     let m = multiplied (weights-of xs) in
     let all : m *ℤ e .weight ≡ multiplied (weights-of (es ++ (e ∷ []))) =
-      ap (λ v. v *ℤ e .weight) (ap multiplied (sym (weights-same xs)) ∙ merge-product es ∙ ap multiplied (weights-same es))
-      ∙ ap (λ v. multiplied (weights-of es) *ℤ v) (sym (times-one (e .weight))) ∙ sym (multiplied-append es (e ∷ [])) in
+    ap (λ v. v *ℤ e .weight) (ap multiplied (sym (weights-same xs)) ∙ merge-product es ∙ ap multiplied (weights-same es))
+    ∙ ap (λ v. multiplied (weights-of es) *ℤ v) (sym (times-one (e .weight))) ∙ sym (multiplied-append es (e ∷ [])) in
     each-map (λ x. One x × T (leZ (x .weight) m)) (λ x. Joinable product (x .weight) (e .weight)) xs
-    (λ x p. (p .0, w,
+    (λ x p. (
+      p .0,
+      w,
       leZ-trans (x .weight *ℤ e .weight) (m *ℤ e .weight) (pos 1000000000000000000)
-      (product-mono (x .weight) m (e .weight) (e .weight) (natural (x .weight) (p .0)) (natural (e .weight) w) (p .1) (leZ-refl (e .weight)))
-      (rw all t)))
+          (product-mono (x .weight) m (e .weight) (e .weight) (natural (x .weight) (p .0)) (natural (e .weight) w) (p .1) (leZ-refl (e .weight)))
+          (rw all t),
+    ))
     (each-both One (λ x. T (leZ (x .weight) m)) xs ones (each-factor xs ones))
 
 -- ---- all kinds

@@ -1,19 +1,19 @@
 -- One written entry more: its literal is noted; a member's turned entry is put, and what it frees goes to the constant. So the words hold the
 -- merge of the entries taken so far, since each part of the merge takes a last entry at its end.
 -- Assumes nothing.
-use mathlib.Core.Path.{_≡_, refl, sym, ap, _∙_, subst}
+use mathlib.Core.Path.{_≡_, refl, sym, ap, _∙_}
 use mathlib.Core.Bool.{Bool, true, false, cond, _||_}
 use mathlib.Core.List.{List, [], _∷_, _++_}
-use Prim.Native.Nat.{ℕ, suc, _+_, _-_, _*_, _/_, _≤_, _<_}
+use Prim.Native.Nat.{ℕ, _+_, _-_, _*_, _≤_, _<_}
 use native.Mathlib.Omega.{arith}
-use lib.IntN.{ℤ, pos, natAbs, _+ℤ_}
+use lib.IntN.{ℤ, natAbs, _+ℤ_}
 use lib.ListN.{length, getD, set, length-set, length-append}
 use lib.Seq.{getD-set-same, getD-set-other}
 use lib.Dec.{T}
 use Rattle.numbers.specs.Words.{half, unbias, literal-word, literal-of}
-use Rattle.numbers.proofs.Integers.{ints, size-parts}
+use Rattle.numbers.proofs.Integers.{size-parts}
 use Rattle.numbers.proofs.Words.{unbias-parts, unbias-sum, literal-of-word, literal-word-of, literal-atom}
-use Rattle.meaning.specs.Meaning.{atom, Entry, Kind, same, members, mixes, Each}
+use Rattle.meaning.specs.Meaning.{atom, Entry, same, members, mixes, Each}
 use Rattle.meaning.specs.Merge.{turned, constant, put, collect}
 use Rattle.meaning.proofs.Gather.{each-map}
 use Rattle.meaning.proofs.Members.{same→eq, eq→same}
@@ -42,18 +42,18 @@ seen-next seen es x l s low high = record { size = length-set seen l true ∙ s 
     at m h =
         either (getD (set seen l true) (literal-word m) false ≡ mentioned m (es ++ (entry-of x l ∷ []))) m (literal-of l)
         (λ (e : m ≡ literal-of l).
-          let w : literal-word m ≡ l = ap literal-word e ∙ literal-word-of l low in
-          let b : same (literal-of l) m ≡ true = is-true (eq→same (literal-of l) m (sym e)) in
-          ap (λ i. getD (set seen l true) i false) w ∙ getD-set-same seen l true false (let z = s .size in omega arith)
-          ∙ or-true (mentioned m es) ∙ sym (mentioned-next m es (entry-of x l) ∙ ap (λ b. mentioned m es || b) b))
+        let w : literal-word m ≡ l = ap literal-word e ∙ literal-word-of l low in
+        let b : same (literal-of l) m ≡ true = is-true (eq→same (literal-of l) m (sym e)) in
+        ap (λ i. getD (set seen l true) i false) w ∙ getD-set-same seen l true false (let z = s .size in omega arith)
+        ∙ or-true (mentioned m es) ∙ sym (mentioned-next m es (entry-of x l) ∙ ap (λ b. mentioned m es || b) b))
         (λ (d : m ≡ literal-of l → ⊥).
-          let b : same (literal-of l) m ≡ false = is-false (λ t. d (sym (same→eq (literal-of l) m t))) in
-          getD-set-other seen l (literal-word m) true false (λ e. d (sym (literal-of-word m) ∙ ap literal-of e))
-          ∙ s .each m h ∙ or-false (mentioned m es) ∙ sym (mentioned-next m es (entry-of x l) ∙ ap (λ b. mentioned m es || b) b))
+        let b : same (literal-of l) m ≡ false = is-false (λ t. d (sym (same→eq (literal-of l) m t))) in
+        getD-set-other seen l (literal-word m) true false (λ e. d (sym (literal-of-word m) ∙ ap literal-of e))
+        ∙ s .each m h ∙ or-false (mentioned m es) ∙ sym (mentioned-next m es (entry-of x l) ∙ ap (λ b. mentioned m es || b) b))
 
 -- ---- one entry
 
-module _ (kind : ℕ) (es : List Entry) (part table : List ℕ) (seen : List Bool) (n c x l : ℕ) (g : Gathered kind es part table seen n c) (t : Takeable kind es x l (length part)) where
+module _ {kind : ℕ} {es : List Entry} {part table : List ℕ} {seen : List Bool} {n c x l : ℕ} (g : Gathered kind es part table seen n c) (t : Takeable kind es x l (length part)) where
   noted : getD seen l false ≡ mentioned (literal-of l) es
   noted =
       ap (λ i. getD seen i false) (sym (literal-word-of l (t .low)))
@@ -88,7 +88,7 @@ module _ (kind : ℕ) (es : List Entry) (part table : List ℕ) (seen : List Boo
     near = let h = g .near in omega (arith, one-longer);
   }
 
-  module _ (r : Turned) (is : TurnedIs kind x l r) where
+  module _ {r : Turned} (is : TurnedIs kind x l r) where
     turned-weight : unbias (r .weight) ≡ turn (kind-of kind) (entry-of x l) .weight
     turned-weight = ap (λ e. e .weight) (is .entry)
 
@@ -114,7 +114,7 @@ module _ (kind : ℕ) (es : List Entry) (part table : List ℕ) (seen : List Boo
       joinable = rw turned-weight (all-joinable (kind-of kind) es (entry-of x l) (first-entries part n) (g .collected .entries) (let f = t .few in omega arith) (g .small) (t .fit) (t .fits) (t .product));
     }
 
-    module _ (part' table' : List ℕ) (n' : ℕ) (p : PutInto part part' table' n kind (r .weight) (r .literal) n') (e : taken (kind-of kind) (getD seen l false) ≡ true) where
+    module _ {part' table' : List ℕ} {n' : ℕ} (p : PutInto part part' table' n kind (r .weight) (r .literal) n') (e : taken (kind-of kind) (getD seen l false) ≡ true) where
       put-is : first-entries part' n' ≡ put (kind-of kind) (first-entries part n) (turn (kind-of kind) (entry-of x l))
       put-is = p .entries ∙ ap (put (kind-of kind) (first-entries part n)) (is .entry)
 
@@ -144,8 +144,8 @@ module _ (kind : ℕ) (es : List Entry) (part table : List ℕ) (seen : List Boo
           literals = p .literals (g .collected .literals);
           few = let f = g .collected .few in let q = p .most in omega (arith, one-longer);
           constant-is =
-            new-constant ∙ ap (λ v. v +ℤ unbias (r .freed)) (g .collected .constant-is) ∙ ap (λ v. constant (kind-of kind) (members (kind-of kind) es) +ℤ v) (is .freed-is)
-            ∙ sym (constant-next (kind-of kind) (members (kind-of kind) es) (entry-of x l)) ∙ ap (constant (kind-of kind)) (sym (members-by true e));
+              new-constant ∙ ap (λ v. v +ℤ unbias (r .freed)) (g .collected .constant-is) ∙ ap (λ v. constant (kind-of kind) (members (kind-of kind) es) +ℤ v) (is .freed-is)
+              ∙ sym (constant-next (kind-of kind) (members (kind-of kind) es) (entry-of x l)) ∙ ap (constant (kind-of kind)) (sym (members-by true e));
         };
         small = all-small;
         places = p .places;

@@ -77,7 +77,7 @@ entries-added w n x l h =
     let a = set w (2 * n) x in
     entries-next (set a (2 * n + 1) l) n (omega (arith, length-set a (2 * n + 1) l, length-set w (2 * n) x))
     ∙ ap (λ r. entries-of r ++ (entry-of (word (set a (2 * n + 1) l) (2 * n)) (word (set a (2 * n + 1) l) (2 * n + 1)) ∷ []))
-      (take-set-le (2 * n) a (2 * n + 1) l (omega arith) ∙ take-set-le (2 * n) w (2 * n) x (omega arith))
+    (take-set-le (2 * n) a (2 * n + 1) l (omega arith) ∙ take-set-le (2 * n) w (2 * n) x (omega arith))
     ∙ ap (λ y. first-entries w n ++ (entry-of y (word (set a (2 * n + 1) l) (2 * n + 1)) ∷ []))
-      (getD-set-other a (2 * n + 1) (2 * n) l 0 (λ q. omega arith) ∙ getD-set-same w (2 * n) x 0 (omega arith))
+    (getD-set-other a (2 * n + 1) (2 * n) l 0 (λ q. omega arith) ∙ getD-set-same w (2 * n) x 0 (omega arith))
     ∙ ap (λ y. first-entries w n ++ (entry-of x y ∷ [])) (getD-set-same a (2 * n + 1) l 0 (omega (arith, length-set w (2 * n) x)))

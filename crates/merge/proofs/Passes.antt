@@ -2,15 +2,15 @@
 -- Assumes nothing.
 use mathlib.Core.Path.{_≡_, refl, sym, ap, _∙_}
 use mathlib.Core.Bool.{Bool, true, false, not}
-use mathlib.Core.List.{List, [], _∷_}
-use Prim.Native.Nat.{ℕ, _+_, _*_, _≤_, _<_}
+use mathlib.Core.List.{List, []}
+use Prim.Native.Nat.{ℕ, _+_, _*_, _≤_}
 use native.Mathlib.Omega.{arith}
 use lib.IntN.{ℤ}
-use lib.ListN.{length, take}
+use lib.ListN.{length}
 use lib.Seq.{getD-take}
 use lib.Dec.{T}
 use Rattle.meaning.specs.Meaning.{Entry, Kind, sum, product, count, maximum, minimum, members, mixes}
-use Rattle.meaning.specs.Merge.{turned, collect, nonzero, kept, merge}
+use Rattle.meaning.specs.Merge.{turned, collect, nonzero, kept}
 use Rattle.meaning.proofs.Orders.{T-false}
 use Rattle.area.specs.Layout.{word, kind-of, entries-of}
 use Rattle.columns.specs.Columns.{paired}
@@ -44,19 +44,19 @@ wiped-entries before part n w = ap entries-of (w .front)
 wiped-literals : (before part : List ℕ) (n : ℕ) → Wiped before part (2 * n) → Literals before n → Literals part n
 wiped-literals before part n w h i g =
     let e : word part (2 * i + 1) ≡ word before (2 * i + 1) =
-      sym (getD-take (2 * n) part (2 * i + 1) 0 (omega arith)) ∙ ap (λ l. word l (2 * i + 1)) (w .front) ∙ getD-take (2 * n) before (2 * i + 1) 0 (omega arith) in
+    sym (getD-take (2 * n) part (2 * i + 1) 0 (omega arith)) ∙ ap (λ l. word l (2 * i + 1)) (w .front) ∙ getD-take (2 * n) before (2 * i + 1) 0 (omega arith) in
     rw e (h i g)
 
-module _ (part : List ℕ) (kind : ℕ) (ws ls : List ℤ) (m : Mergeable part kind ws ls) (gathered : List ℕ) (r : Merged) (size : length gathered ≡ length part) (c : Collected kind (paired ws ls) gathered (r .count) (r .constant)) where
+module _ {part : List ℕ} {kind : ℕ} {ws ls : List ℤ} (m : Mergeable part kind ws ls) {gathered : List ℕ} (r : Merged) (size : length gathered ≡ length part) (c : Collected kind (paired ws ls) gathered (r .count) (r .constant)) where
   pub few : r .count ≤ length ws
   few = omega (arith, c .few, paired-length ws ls (m .same))
 
   pub room : (2 * r .count ≤ length gathered) × (r .count ≤ 4096)
   room = let a = m .room in let b = m .few in (omega (arith, few), omega (arith, few))
 
-  pub merged-mixed : (sifted wiped : List ℕ) (n : ℕ) → mixes (kind-of kind) ≡ true → Sifted gathered sifted (r .count) n → length sifted ≡ length gathered → Wiped sifted wiped (2 * n) → length wiped ≡ length sifted
+  pub merged-mixed : {sifted wiped : List ℕ} {n : ℕ} → mixes (kind-of kind) ≡ true → Sifted gathered sifted (r .count) n → length sifted ≡ length gathered → Wiped sifted wiped (2 * n) → length wiped ≡ length sifted
       → MergedInto wiped kind ws ls (record { count = n; constant = r .constant })
-  merged-mixed sifted wiped n x s a w b =
+  merged-mixed {sifted} {wiped} {n} x s a w b =
       let room = m .room in
       record {
         size = omega arith;
@@ -68,9 +68,9 @@ module _ (part : List ℕ) (kind : ℕ) (ws ls : List ℤ) (m : Mergeable part k
         no-constant = λ t. absurd (unmixed (mixes (kind-of kind)) x t);
       }
 
-  pub merged-plain : (wiped : List ℕ) → mixes (kind-of kind) ≡ false → Wiped gathered wiped (2 * r .count) → length wiped ≡ length gathered
+  pub merged-plain : {wiped : List ℕ} → mixes (kind-of kind) ≡ false → Wiped gathered wiped (2 * r .count) → length wiped ≡ length gathered
       → MergedInto wiped kind ws ls (record { count = r .count; constant = 0 })
-  merged-plain wiped x w b =
+  merged-plain {wiped} x w b =
       let room = m .room in
       record {
         size = omega arith;

@@ -2,10 +2,10 @@
 -- goes behind all others, and i + 1 that entry i has the literal and is joined. No other literal's slot changes.
 -- Assumes nothing.
 use mathlib.Core.Path.{_≡_, refl, sym, ap, _∙_, subst}
-use mathlib.Core.Bool.{Bool, true, false, cond}
-use mathlib.Core.List.{List, [], _∷_, _++_}
-use mathlib.Core.Logic.{_⊎_, ⊎-elim}
-use Prim.Native.Nat.{ℕ, zero, suc, _+_, _-_, _*_, _/_, _≤_, _<_}
+use mathlib.Core.Bool.{Bool, true, false}
+use mathlib.Core.List.{List, [], _∷_}
+use mathlib.Core.Logic.{⊎-elim}
+use Prim.Native.Nat.{ℕ, zero, suc, _+_, _-_, _*_, _≤_, _<_}
 use native.Mathlib.Omega.{arith}
 use native.Mathlib.Numerals.{add-one}
 use native.Mathlib.Nat.{eq-or-lt-of-le}
@@ -15,7 +15,7 @@ use lib.Seq.{getD-set-same, getD-set-other}
 use lib.Dec.{T}
 use Rattle.numbers.specs.Words.{unbias, literal-word, literal-of}
 use Rattle.numbers.proofs.Words.{literal-of-word, literal-word-of, literal-atom}
-use Rattle.meaning.specs.Meaning.{atom, Entry, Kind, same, Each}
+use Rattle.meaning.specs.Meaning.{atom, Entry, same, Each}
 use Rattle.meaning.specs.Merge.{joined, put}
 use Rattle.meaning.proofs.Members.{same→eq, eq→same, join}
 use Rattle.area.specs.Layout.{word, kind-of}
@@ -44,7 +44,7 @@ pub one-less : (q : ℕ) → (q ≡ 0 → ⊥) → q ≡ suc (q - 1)
 one-less zero h = absurd (h refl)
 one-less (suc q) h = omega arith
 
-module _ (part table : List ℕ) (n kind x l : ℕ) (p : Puttable part table n kind x l) where
+module _ {part table : List ℕ} {n kind x l : ℕ} (p : Puttable part table n kind x l) where
   atom-most : atom (literal-of l) ≤ 4096
   atom-most = omega (arith, atom-size (literal-of l), literal-atom l (p .low))
 
@@ -82,23 +82,23 @@ module _ (part table : List ℕ) (n kind x l : ℕ) (p : Puttable part table n k
         at m h =
             either (getD (set table l (n + 1)) (literal-word m) 0 ≡ slot (put (kind-of kind) (first-entries part n) (entry-of x l)) m) m (literal-of l)
             (λ (e : m ≡ literal-of l).
-              ap (λ z. getD (set table l (n + 1)) (literal-word z) 0) e ∙ ap (λ i. getD (set table l (n + 1)) i 0) literal-back
-              ∙ getD-set-same table l (n + 1) 0 (let s = p .places .size in let q = p .high in omega arith)
-              ∙ add-one n ∙ ap suc (sym held-length)
-              ∙ sym (slot-new (kind-of kind) (first-entries part n) (entry-of x l) no-slot)
-              ∙ ap (slot (put (kind-of kind) (first-entries part n) (entry-of x l))) (sym e))
+            ap (λ z. getD (set table l (n + 1)) (literal-word z) 0) e ∙ ap (λ i. getD (set table l (n + 1)) i 0) literal-back
+            ∙ getD-set-same table l (n + 1) 0 (let s = p .places .size in let q = p .high in omega arith)
+            ∙ add-one n ∙ ap suc (sym held-length)
+            ∙ sym (slot-new (kind-of kind) (first-entries part n) (entry-of x l) no-slot)
+            ∙ ap (slot (put (kind-of kind) (first-entries part n) (entry-of x l))) (sym e))
             (λ (d : m ≡ literal-of l → ⊥).
-              getD-set-other table l (literal-word m) (n + 1) 0 (other-word m d) ∙ p .places .each m h
-              ∙ sym (slot-other (kind-of kind) (first-entries part n) (entry-of x l) m (λ e. d (sym e))))
+            getD-set-other table l (literal-word m) (n + 1) 0 (other-word m d) ∙ p .places .each m h
+            ∙ sym (slot-other (kind-of kind) (first-entries part n) (entry-of x l) m (λ e. d (sym e))))
 
     new-literals : Literals part n → Literals (set (set part (2 * n) x) (2 * n + 1) l) (n + 1)
     new-literals h i g =
         ⊎-elim {A = i ≡ n} {B = i < n}
         (λ (e : i ≡ n). let w : word (set (set part (2 * n) x) (2 * n + 1) l) (2 * n + 1) ≡ l = getD-set-same (set part (2 * n) x) (2 * n + 1) l 0 (let r = p .room in omega (arith, length-set part (2 * n) x)) in
-          rw (e, w) (p .low))
+        rw (e, w) (p .low))
         (λ (q : i < n). let w : word (set (set part (2 * n) x) (2 * n + 1) l) (2 * i + 1) ≡ word part (2 * i + 1) =
-            getD-set-other (set part (2 * n) x) (2 * n + 1) (2 * i + 1) l 0 (λ z. omega arith) ∙ getD-set-other part (2 * n) (2 * i + 1) x 0 (λ z. omega arith) in
-          rw w (h i q))
+        getD-set-other (set part (2 * n) x) (2 * n + 1) (2 * i + 1) l 0 (λ z. omega arith) ∙ getD-set-other part (2 * n) (2 * i + 1) x 0 (λ z. omega arith) in
+        rw w (h i q))
         (eq-or-lt-of-le (omega arith))
 
     pub put-behind : PutInto part (set (set part (2 * n) x) (2 * n + 1) l) (set table l (n + 1)) n kind x l (n + 1)
@@ -142,9 +142,9 @@ module _ (part table : List ℕ) (n kind x l : ℕ) (p : Puttable part table n k
           at m h =
               either (getD table (literal-word m) 0 ≡ slot (put (kind-of kind) (first-entries part n) (entry-of x l)) m) m (literal-of l)
               (λ (e : m ≡ literal-of l).
-                ap (λ z. getD table (literal-word z) 0) e ∙ ap (λ i. getD table i 0) literal-back ∙ old
-                ∙ sym (slot-old (kind-of kind) (first-entries part n) (entry-of x l) i (sym table-slot ∙ old))
-                ∙ ap (slot (put (kind-of kind) (first-entries part n) (entry-of x l))) (sym e))
+              ap (λ z. getD table (literal-word z) 0) e ∙ ap (λ i. getD table i 0) literal-back ∙ old
+              ∙ sym (slot-old (kind-of kind) (first-entries part n) (entry-of x l) i (sym table-slot ∙ old))
+              ∙ ap (slot (put (kind-of kind) (first-entries part n) (entry-of x l))) (sym e))
               (λ (d : m ≡ literal-of l → ⊥). p .places .each m h ∙ sym (slot-other (kind-of kind) (first-entries part n) (entry-of x l) m (λ e. d (sym e))))
 
       old-literals : Literals part n → Literals (set part (2 * i) z) n

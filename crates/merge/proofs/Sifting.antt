@@ -2,19 +2,19 @@
 -- on are as they were; so entry k is dropped, or written behind the m. Words set to 0 from a place on leave those before it.
 -- Assumes nothing.
 use mathlib.Core.Path.{_≡_, refl, sym, ap, _∙_}
-use mathlib.Core.Bool.{Bool, true, false, cond}
+use mathlib.Core.Bool.{true, false, cond}
 use mathlib.Core.List.{List, [], _∷_, _++_}
-use mathlib.Core.Logic.{_⊎_, ⊎-elim}
-use Prim.Native.Nat.{ℕ, suc, _+_, _*_, _≤_, _<_}
+use mathlib.Core.Logic.{⊎-elim}
+use Prim.Native.Nat.{ℕ, _+_, _*_, _≤_, _<_}
 use native.Mathlib.Omega.{arith}
 use native.Mathlib.Numerals.{add-one}
 use native.Mathlib.Nat.{eq-or-lt-of-le}
-use lib.IntN.{ℤ, pos}
+use lib.IntN.{pos}
 use lib.ListN.{length, take, set, length-set}
 use lib.Seq.{take-set-le, getD-set-same, getD-set-other}
 use Rattle.numbers.specs.Words.{half, unbias}
 use Rattle.numbers.proofs.Words.{unbias-zero, unbias-one}
-use Rattle.meaning.specs.Meaning.{Entry, same}
+use Rattle.meaning.specs.Meaning.{same}
 use Rattle.meaning.specs.Merge.{nonzero}
 use Rattle.meaning.proofs.Members.{same→eq, eq→same}
 use Rattle.meaning.proofs.Orders.{is-true, is-false}
@@ -34,10 +34,7 @@ sift-none before = record {
   ahead = λ j h. refl;
 }
 
-module _ (before part : List ℕ) (k m : ℕ) (s : Sifting before part k m) (room : 2 * k + 1 < length before) where
-  abbrev last : Entry
-  last = entry-of (word before (2 * k)) (word before (2 * k + 1))
-
+module _ {before part : List ℕ} {k m : ℕ} (s : Sifting before part k m) (room : 2 * k + 1 < length before) where
   one-more : nonzero (first-entries before (k + 1)) ≡ cond (same (unbias (word before (2 * k))) (pos 0)) (nonzero (first-entries before k)) (nonzero (first-entries before k) ++ (entry-of (word before (2 * k)) (word before (2 * k + 1)) ∷ []))
   one-more =
       ap (λ n. nonzero (first-entries before n)) (add-one k) ∙ ap nonzero (entries-next before k room)
@@ -76,7 +73,7 @@ module _ (before part : List ℕ) (k m : ℕ) (s : Sifting before part k m) (roo
     kept-entries : first-entries moved (m + 1) ≡ nonzero (first-entries before (k + 1))
     kept-entries =
         let z : same (unbias (word before (2 * k))) (pos 0) ≡ false =
-          is-false (λ t. kept (weight-same ∙ unbias-one (word before (2 * k)) half (same→eq (unbias (word before (2 * k))) (pos 0) t ∙ sym unbias-zero))) in
+        is-false (λ t. kept (weight-same ∙ unbias-one (word before (2 * k)) half (same→eq (unbias (word before (2 * k))) (pos 0) t ∙ sym unbias-zero))) in
         ap (first-entries moved) (add-one m) ∙ entries-added part m (word part (2 * k)) (word part (2 * k + 1)) (let f = s .sifted .few in omega arith)
         ∙ ap (λ es. es ++ (entry-of (word part (2 * k)) (word part (2 * k + 1)) ∷ [])) (s .sifted .entries)
         ∙ ap (λ x. nonzero (first-entries before k) ++ (entry-of x (word part (2 * k + 1)) ∷ [])) weight-same
@@ -88,7 +85,7 @@ module _ (before part : List ℕ) (k m : ℕ) (s : Sifting before part k m) (roo
         ⊎-elim {A = i ≡ m} {B = i < m}
         (λ (e : i ≡ m). rw (e, last-literal) (h k (omega arith)))
         (λ (q : i < m). let w : word moved (2 * i + 1) ≡ word part (2 * i + 1) = other (2 * i + 1) (λ z. omega arith) (λ z. omega arith) in
-          rw w (s .sifted .literals (λ j f. h j (omega arith)) i q))
+        rw w (s .sifted .literals (λ j f. h j (omega arith)) i q))
         (eq-or-lt-of-le (omega arith))
 
     pub sift-keep : Sifting before (set (set part (2 * m) (word part (2 * k))) (2 * m + 1) (word part (2 * k + 1))) (k + 1) (m + 1)
@@ -106,12 +103,12 @@ pub record Wiping (before part : List ℕ) (from i : ℕ) : Type 0 where
 pub wipe-none : (before : List ℕ) (from : ℕ) → Wiping before before from from
 wipe-none before from = record { front = refl; zeros = λ j h g. let b : ⊥ = omega arith in absurd b }
 
-pub wipe-next : (before part : List ℕ) (from i : ℕ) → Wiping before part from i → from ≤ i → i < length part → Wiping before (set part i 0) from (i + 1)
-wipe-next before part from i w low high = record {
+pub wipe-next : {before part : List ℕ} {from i : ℕ} → Wiping before part from i → from ≤ i → i < length part → Wiping before (set part i 0) from (i + 1)
+wipe-next {before} {part} {from} {i} w low high = record {
   front = take-set-le from part i 0 low ∙ w .front;
   zeros = λ j h g.
-    ⊎-elim {A = j ≡ i} {B = j < i}
-    (λ (e : j ≡ i). rw e (getD-set-same part i 0 0 high))
-    (λ (q : j < i). getD-set-other part i j 0 0 (λ e. omega arith) ∙ w .zeros j h q)
-    (eq-or-lt-of-le (omega arith));
+      ⊎-elim {A = j ≡ i} {B = j < i}
+      (λ (e : j ≡ i). rw e (getD-set-same part i 0 0 high))
+      (λ (q : j < i). getD-set-other part i j 0 0 (λ e. omega arith) ∙ w .zeros j h q)
+      (eq-or-lt-of-le (omega arith));
 }

@@ -2,12 +2,12 @@
 -- Assumes nothing.
 use mathlib.Core.Path.{_≡_, refl, sym, ap, _∙_}
 use mathlib.Core.Bool.{Bool, true, false, not}
-use Prim.Native.Nat.{ℕ, zero, suc, _+_, _-_, _*_, _/_, _%_, _≤_, _<_}
+use Prim.Native.Nat.{ℕ, zero, suc, _+_, _-_, _*_, _/_, _%_, _≤_}
 use native.Mathlib.Omega.{arith}
-use lib.IntN.{ℤ, pos, negsuc, negℤ, natAbs}
+use lib.IntN.{ℤ, pos, negsuc, natAbs}
 use lib.Dec.{eqb}
 use borrow.Author.Tests.{ne-eqb}
-use Rattle.numbers.specs.Words.{half, bias, unbias, literal-word, literal-of}
+use Rattle.numbers.specs.Words.{half, bias, literal-word, literal-of}
 use Rattle.numbers.proofs.Words.{unbias-zero, unbias-neg, literal-even, literal-odd}
 use mir.Syntax.{w64}
 use mir.Val.{SFits}

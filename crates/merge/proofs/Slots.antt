@@ -1,15 +1,15 @@
 -- The slot of a literal, 1 more than the place of its entry or 0: `put` joins at the slot, or puts the entry at the end where there is none.
 -- Assumes nothing.
-use mathlib.Core.Path.{_≡_, refl, sym, ap, _∙_}
+use mathlib.Core.Path.{_≡_, refl, ap, _∙_}
 use mathlib.Core.Bool.{Bool, true, false, cond}
 use mathlib.Core.List.{List, [], _∷_, _++_}
-use Prim.Native.Nat.{ℕ, zero, suc, _+_, _≤_, _<_}
+use Prim.Native.Nat.{ℕ, zero, suc, _≤_, _<_}
 use native.Mathlib.Omega.{arith}
 use lib.IntN.{ℤ}
 use lib.ListN.{length, getD, set}
 use lib.Dec.{T}
 use Rattle.meaning.specs.Meaning.{Entry, Kind, same}
-use Rattle.meaning.specs.Merge.{joined, put}
+use Rattle.meaning.specs.Merge.{put}
 use Rattle.meaning.proofs.Members.{same→eq, eq→same, join}
 use Rattle.meaning.proofs.Orders.{is-true, is-false}
 use Rattle.merge.specs.Passes.{after, slot}

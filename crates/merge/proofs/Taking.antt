@@ -2,12 +2,12 @@
 -- weights is at most that of all. Before any entry nothing is held.
 -- Assumes nothing.
 use mathlib.Core.Path.{_≡_, refl, sym, ap, _∙_, subst}
-use mathlib.Core.Bool.{Bool, true, false}
+use mathlib.Core.Bool.{Bool, false}
 use mathlib.Core.List.{List, [], _∷_, _++_}
-use Prim.Native.Nat.{ℕ, zero, suc, _+_, _*_, _≤_, _<_}
+use Prim.Native.Nat.{ℕ, zero, suc, _+_, _≤_, _<_}
 use native.Mathlib.Omega.{arith}
 use native.Mathlib.Numerals.{add-one}
-use lib.IntN.{ℤ, pos, negsuc, natAbs, _*ℤ_}
+use lib.IntN.{ℤ, pos, negsuc, natAbs}
 use lib.ListN.{length, getD, take, drop, replicate, length-replicate, getD-replicate, take-append-drop}
 use lib.Seq.{take-suc, length-take-le}
 use lib.Signed.{leZ, mag}
@@ -29,7 +29,7 @@ use Rattle.area.specs.Whole.{weights-of}
 use Rattle.columns.specs.Columns.{paired}
 use Rattle.columns.specs.Refusals.{some}
 use Rattle.merge.specs.Into.{Mergeable}
-use Rattle.merge.specs.Passes.{entry-of, first-entries, slot, Gathered, Takeable}
+use Rattle.merge.specs.Passes.{entry-of, slot, Gathered, Takeable}
 use Rattle.merge.proofs.Held.{entries-none}
 use Rattle.merge.proofs.Bounds.{fits-small, factor, products-one, multiplied-append}
 use Rattle.merge.proofs.Putting.{atom-size, each-at}
@@ -82,6 +82,13 @@ one-is-product (suc (suc (suc (suc k)))) e = cc
 
 -- ---- entry i
 
+-- the words of a number that comes back from its bits
+pub weight-is : {x : ℕ} (w : ℤ) → SFits w64 w → x ≡ bias (back w) → x ≡ bias w
+weight-is w f e = e ∙ ap bias (toZ-ofZ w64 w f)
+
+pub literal-is : {x : ℕ} (l : ℤ) → SFits w64 l → x ≡ literal-word (back l) → x ≡ literal-word l
+literal-is l f e = e ∙ ap literal-word (toZ-ofZ w64 l f)
+
 mag-size : (w : ℤ) → mag w ≤ natAbs w
 mag-size (pos n) = omega arith
 mag-size (negsuc n) = omega arith
@@ -90,10 +97,7 @@ literal-word-range : (l : ℤ) → 1 ≤ atom l → atom l ≤ 4096 → (2 ≤ l
 literal-word-range (pos a) h g = (omega arith, omega arith)
 literal-word-range (negsuc a) h g = (omega arith, omega arith)
 
-module _ (part : List ℕ) (kind : ℕ) (ws ls : List ℤ) (m : Mergeable part kind ws ls) (i : ℕ) (h : i < length ws) where
-  abbrev nothing : Entry
-  nothing = entry-of 0 0
-
+module _ {part : List ℕ} {kind : ℕ} {ws ls : List ℤ} (m : Mergeable part kind ws ls) (i : ℕ) (h : i < length ws) where
   at-place : (P : Entry → Type 0) → Each P (paired ws ls) → P (record { weight = getD ws i (pos 0); literal = getD ls i (pos 0) })
   at-place P e = subst P (paired-at ws ls i (entry-of 0 0) (m .same) h) (each-at P (paired ws ls) i (entry-of 0 0) (omega (arith, paired-length ws ls (m .same))) e)
 
@@ -109,7 +113,7 @@ module _ (part : List ℕ) (kind : ℕ) (ws ls : List ℤ) (m : Mergeable part k
   pub literal-small : SFits w64 (getD ls i (pos 0)) → natAbs (back (getD ls i (pos 0))) ≤ 4096
   literal-small f = rw (toZ-ofZ w64 (getD ls i (pos 0)) f) (let r = literal-range .1 in omega (arith, atom-size (getD ls i (pos 0))))
 
-  module _ (x l : ℕ) (x-is : x ≡ bias (getD ws i (pos 0))) (l-is : l ≡ literal-word (getD ls i (pos 0))) where
+  module _ {x l : ℕ} (x-is : x ≡ bias (getD ws i (pos 0))) (l-is : l ≡ literal-word (getD ls i (pos 0))) where
     weight-back : unbias x ≡ getD ws i (pos 0)
     weight-back = ap unbias x-is ∙ unbias-of (getD ws i (pos 0)) (omega (arith, mag-size (getD ws i (pos 0)), fits-small (kind-of kind) (getD ws i (pos 0)) fits-at))
 

@@ -10,8 +10,8 @@ use lib.ListN.{length, getD, take}
 use lib.Signed.{leZ}
 use lib.Dec.{T}
 use Rattle.numbers.specs.Words.{unbias, literal-word, literal-of}
-use Rattle.meaning.specs.Meaning.{atom, Entry, place, Kind, sum, product, count, maximum, minimum, same, members, mixes, multiplied, Each}
-use Rattle.meaning.specs.Merge.{turned-by, freed-by, turned, constant, joined, put, collect, nonzero}
+use Rattle.meaning.specs.Meaning.{atom, Entry, Kind, sum, product, count, maximum, minimum, same, members, mixes, multiplied, Each}
+use Rattle.meaning.specs.Merge.{turned-by, freed-by, turned, constant, put, collect, nonzero}
 use Rattle.kinds.specs.Kinds.{weight-fits}
 use Rattle.area.specs.Layout.{word, kind-of, entries-of}
 use Rattle.area.specs.Whole.{weights-of}

@@ -1,13 +1,12 @@
 // The merge of a written set into a part of the work area, in three passes: each entry is put onto the entry with its literal or behind
 // all others; in sums and counts the entries of weight 0 are left out; the words behind are set to 0.
 ghost use mathlib.Core.Path.{_≡_};
-ghost use mathlib.Core.Bool.{Bool, true, false};
-ghost use mathlib.Core.List.{List, [], _∷_, _++_};
-ghost use Prim.Native.Nat.{ℕ, _+_, _*_, _<_, _≤_};
-ghost use lib.IntN.{ℤ, natAbs};
+ghost use mathlib.Core.Bool.{true, false};
+ghost use Prim.Native.Nat.{_+_, _*_, _<_, _≤_};
+ghost use lib.IntN.{natAbs};
 ghost use lib.ListN.{length, getD, set};
 ghost use Rattle.numbers.specs.Words.{bias, unbias, literal-word};
-ghost use Rattle.meaning.specs.Meaning.{Entry, mixes};
+ghost use Rattle.meaning.specs.Meaning.{mixes};
 ghost use Rattle.meaning.specs.Merge.{joined};
 ghost use Rattle.area.specs.Layout.{kind-of};
 ghost use Rattle.columns.specs.Columns.{paired};

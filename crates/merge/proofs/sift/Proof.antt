@@ -1,13 +1,12 @@
+-- The first m entries are those of the first k whose weight is not 0, and the words from entry k on are as they were. Assumes nothing.
+use mathlib.Core.Path.{_≡_, refl}
+use Prim.Native.Nat.{_≤_, _-_}
 use borrow.Author.Needs.{needs}
 use native.Mathlib.Omega.{arith}
-use Prim.Native.Nat.{_≤_, _<_, _+_, _*_, _-_}
-use mathlib.Core.Path.{_≡_, refl, sym}
 use lib.ListN.{length, length-set}
 use Rattle.merge.proofs.Sifting.{Sifting, sift-none, sift-drop, sift-keep}
 use Rattle.merge.proofs.sift.Statement.{statement}
 use Rattle.merge.proofs.sift.Tie as tie
-use Rattle.merge.proofs.sift.Reads as reads
-use Rattle.merge.proofs.sift.Lts as lts
 
 abbrev Inv-loop : tie.InvT-loop
 Inv-loop part₀ count m₀ k₀ part m k = (m ≤ k) × (k ≤ count) × (length part ≡ length part₀) × Sifting part₀ part k m
@@ -15,95 +14,72 @@ Inv-loop part₀ count m₀ k₀ part m k = (m ≤ k) × (k ≤ count) × (lengt
 abbrev μ-loop : tie.MeasureT-loop
 μ-loop part₀ count m₀ k₀ part m k = count - k
 
--- src/lib.rt:205:5
 loop-holds : tie.Need-loop-holds Inv-loop μ-loop
 loop-holds c = (omega arith, omega arith, refl, sift-none _)
 
--- src/lib.rt:206:22
 mul-x : tie.Need-mul-x Inv-loop μ-loop
 mul-x c = search needs
 
--- src/lib.rt:206:17
 mul-x-2 : tie.Need-mul-x-2 Inv-loop μ-loop
 mul-x-2 c = search needs
 
--- src/lib.rt:206:17
 slice-read-x : tie.Need-slice-read-x Inv-loop μ-loop
 slice-read-x c = search needs
 
--- src/lib.rt:207:22
 mul-l : tie.Need-mul-l Inv-loop μ-loop
 mul-l c = search needs
 
--- src/lib.rt:207:22
 add-l : tie.Need-add-l Inv-loop μ-loop
 add-l c = search needs
 
--- src/lib.rt:207:17
 mul-l-2 : tie.Need-mul-l-2 Inv-loop μ-loop
 mul-l-2 c = search needs
 
--- src/lib.rt:207:17
 slice-read-l : tie.Need-slice-read-l Inv-loop μ-loop
 slice-read-l c = search needs
 
--- src/lib.rt:208:9
 add-k : tie.Need-add-k Inv-loop μ-loop
 add-k c = search needs
 
--- src/lib.rt:210:18
 mul-part : tie.Need-mul-part Inv-loop μ-loop
 mul-part c = search needs
 
--- src/lib.rt:210:13
 mul-part-2 : tie.Need-mul-part-2 Inv-loop μ-loop
 mul-part-2 c = search needs
 
--- src/lib.rt:210:13
 slice-write-part : tie.Need-slice-write-part Inv-loop μ-loop
 slice-write-part c = search needs
 
--- src/lib.rt:211:18
 mul-part-3 : tie.Need-mul-part-3 Inv-loop μ-loop
 mul-part-3 c = search needs
 
--- src/lib.rt:211:18
 add-part : tie.Need-add-part Inv-loop μ-loop
 add-part c = search needs
 
--- src/lib.rt:211:13
 mul-part-4 : tie.Need-mul-part-4 Inv-loop μ-loop
 mul-part-4 c = search needs
 
--- src/lib.rt:211:13
 slice-write-part-2 : tie.Need-slice-write-part-2 Inv-loop μ-loop
 slice-write-part-2 c = simp length-set (omega (arith, c .before .before .before .before .loop .inv .0, c .before .before .before .before .loop .inv .2))
 
--- src/lib.rt:212:13
 add-m : tie.Need-add-m Inv-loop μ-loop
 add-m c = search needs
 
--- src/lib.rt:205:5
 loop-less : tie.Need-loop-less Inv-loop μ-loop
 loop-less c = search needs
 
--- src/lib.rt:205:5
 loop-again : tie.Need-loop-again Inv-loop μ-loop
-loop-again c = (omega arith, omega arith, simp length-set (c .before .before .before .before .loop .inv .2), sift-keep (c .before .before .before .before .before .args .part .now) (c .before .before .before .before .loop .part) (c .before .before .before .before .loop .k) (c .before .before .before .before .loop .m) (c .before .before .before .before .loop .inv .3) (omega (arith, c .before .before .before .before .before .pre .0)) (c .before .before .before .before .loop .inv .2) (c .if1 .taken))
+loop-again c = (omega arith, omega arith, simp length-set (c .before .before .before .before .loop .inv .2), sift-keep (c .before .before .before .before .loop .inv .3) (omega (arith, c .before .before .before .before .before .pre .0)) (c .before .before .before .before .loop .inv .2) (c .if1 .taken))
 
--- src/lib.rt:205:5
 loop-less-2 : tie.Need-loop-less-2 Inv-loop μ-loop
 loop-less-2 c = search needs
 
--- src/lib.rt:205:5
 loop-again-2 : tie.Need-loop-again-2 Inv-loop μ-loop
-loop-again-2 c = (omega arith, omega arith, c .before .before .before .before .loop .inv .2, sift-drop (c .before .before .before .before .before .args .part .now) (c .before .before .before .before .loop .part) (c .before .before .before .before .loop .k) (c .before .before .before .before .loop .m) (c .before .before .before .before .loop .inv .3) (omega (arith, c .before .before .before .before .before .pre .0)) (c .if1 .left))
+loop-again-2 c = (omega arith, omega arith, c .before .before .before .before .loop .inv .2, sift-drop (c .before .before .before .before .loop .inv .3) (omega (arith, c .before .before .before .before .before .pre .0)) (c .if1 .left))
 
--- src/lib.rt:199:1
 same-length : tie.Need-same-length Inv-loop μ-loop
 same-length c = c .before .loop .inv .2
 
--- src/lib.rt:199:1
 returns : tie.Need-returns Inv-loop μ-loop
 returns c = let e : c .before .loop .k ≡ c .before .before .args .count = omega arith in rw e at (c .before .loop .inv .3 .sifted)
 

@@ -1,26 +1,19 @@
-use native.Mathlib.Omega.{arith}
+-- A count takes a literal that was not noted, the other kinds take all. Assumes nothing.
 use mathlib.Core.Path.{refl}
-use Rattle.merge.proofs.Signs.{taken-count, taken-other}
 use borrow.Author.Needs.{needs}
+use Rattle.merge.proofs.Signs.{taken-count, taken-other}
 use Rattle.merge.proofs.takes.Statement.{statement}
 use Rattle.merge.proofs.takes.Tie as tie
-use Rattle.merge.proofs.takes.Reads as reads
-use Rattle.merge.proofs.takes.Lts as lts
 
-
--- src/lib.rt:147:18
 element-copy-out-before : tie.Need-element-copy-out-before
 element-copy-out-before c = search needs
 
--- src/lib.rt:148:5
 element-write-seen : tie.Need-element-write-seen
 element-write-seen c = search needs
 
--- src/lib.rt:150:9
 returns : tie.Need-returns
 returns c = (taken-count (c .before .before .args .kind) _ (c .if1 .taken), refl)
 
--- src/lib.rt:142:1
 returns-2 : tie.Need-returns-2
 returns-2 c = (taken-other (c .before .before .args .kind) _ (c .if1 .left), refl)
 
