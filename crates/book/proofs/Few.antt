@@ -14,10 +14,10 @@ use Rattle.meaning.specs.Meaning.{atom, Sentence, On, Each}
 use Rattle.book.specs.Rows.{Row, trail}
 use Rattle.book.proofs.Sound.{Within, Sound}
 
-abbrev Off : ℕ → List ℕ → Type 0
+abbrev pub Off : ℕ → List ℕ → Type 0
 Off a bs = Each (λ b. ¬ (b ≡ a)) bs
 
-abbrev Distinct : List ℕ → Type 0
+abbrev pub Distinct : List ℕ → Type 0
 Distinct [] = Unit {0}
 Distinct (a ∷ bs) = Off a bs × Distinct bs
 
@@ -72,7 +72,7 @@ below-top n (b ∷ bs) h = go (eqb (suc n) b) (λ e. eqb-false (suc n) b e) (bel
         let high = h .0 .1 in
         ((h .0 .0, omega (arith, high, d)), ih)
 
-few : (n : ℕ) (bs : List ℕ) → Each (Within n) bs → Distinct bs → length bs ≤ n
+pub few : (n : ℕ) (bs : List ℕ) → Each (Within n) bs → Distinct bs → length bs ≤ n
 few zero [] h d = omega arith
 few zero (b ∷ bs) h d = absurd (let low = h .0 .0 in let high = h .0 .1 in omega (arith, low, high))
 few (suc n) bs h d =
@@ -81,9 +81,13 @@ few (suc n) bs h d =
 
 -- ---- rows
 
-abbrev atoms-of : List Row → List ℕ
+abbrev pub atoms-of : List Row → List ℕ
 atoms-of [] = []
 atoms-of (r ∷ rs) = atom (r .literal) ∷ atoms-of rs
+
+pub lengths : (rs : List Row) → length (atoms-of rs) ≡ length rs
+lengths [] = refl
+lengths (r ∷ rs) = ap suc (lengths rs)
 
 module _ (n : ℕ) (ss : List Sentence) where
   off-atoms : (a : ℕ) (rs : List Row) → ¬ (On a (trail rs)) → Off a (atoms-of rs)
@@ -97,10 +101,6 @@ module _ (n : ℕ) (ss : List Sentence) where
   distinct : (v : ℕ) (rs : List Row) → Sound n ss v rs → Distinct (atoms-of rs)
   distinct v [] h = tt
   distinct v (r ∷ rs) h = (off-atoms (atom (r .literal)) rs (h .0 .off), distinct (r .level) rs (h .1))
-
-  lengths : (rs : List Row) → length (atoms-of rs) ≡ length rs
-  lengths [] = refl
-  lengths (r ∷ rs) = ap suc (lengths rs)
 
   pub few-rows : (v : ℕ) (rs : List Row) → Sound n ss v rs → length rs ≤ n
   few-rows v rs h = let k = few n (atoms-of rs) (within v rs h) (distinct v rs h) in let l = lengths rs in omega (arith, k, l)

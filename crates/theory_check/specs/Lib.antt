@@ -1,1 +1,2 @@
 pub mod Theory
+pub mod Words

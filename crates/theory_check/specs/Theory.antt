@@ -12,7 +12,7 @@ use Rattle.types.specs.Limits.{Fitting}
 use Rattle.decide.specs.Tells.{Tells}
 use Rattle.meaning.specs.Meaning.{mixes}
 use Rattle.area.specs.Layout.{word, record-at, tag-at, before-at, written-at, merged-at, entry-at, rule-at, entries-before}
-use Rattle.area.specs.Whole.{RuleWhole, Reasoned}
+use Rattle.area.specs.Whole.{RuleWhole}
 
 -- ---- places: each sentence's entries stand behind those before it, and there is room for all
 
@@ -68,5 +68,3 @@ pub record Reasonable (lim : Limits) (w : List ℕ) (n S len : ℕ) : Type 0 whe
   pub places : PlacesOk lim w n S
   -- the trail's literals are of atoms
   pub literals : (i : ℕ) → i < len → 2 ≤ word w (2 * n + i)
-  -- and so are the merged entries
-  pub entries : (s j : ℕ) → s < S → j < merged-at w (record-at n s) → 2 ≤ word w (entry-at w n S (record-at n s) + 2 * j + 1)

@@ -11,6 +11,12 @@ pub struct Sentence(pub u64);
 // A level of the trail.
 pub struct Level(pub u64);
 
+// The trail's counters: its length, and the current level.
+pub struct Counters {
+    pub length: u64,
+    pub level: Level,
+}
+
 // The limits of a caller: atoms, sentences, written entries, written entries in one sentence, and the highest level.
 pub struct Limits {
     pub atoms: u64,

@@ -1,0 +1,1 @@
+// Renewing the stored bounds after values changed.

@@ -1,0 +1,126 @@
+-- A sentence's wholeness is that of its own words, of its entries by number, and of its unused words: the entries' list is that of the
+-- numbers, and the product of the weights as integers is that of the words above 2^62.
+-- Assumes nothing.
+use mathlib.Core.Path.{_≡_, refl, sym, ap, _∙_, subst}
+use mathlib.Core.Bool.{not}
+use mathlib.Core.List.{List}
+use Prim.Native.Nat.{ℕ, zero, suc, _+_, _*_, _-_, _%_, _<_, _≤_}
+use native.Mathlib.Omega.{arith}
+use lib.ListN.{length}
+use lib.IntN.{ℤ, pos}
+use lib.Signed.{leZ}
+use lib.Dec.{T, leb→le, le→leb}
+use Rattle.types.specs.declared.Limits.{Limits}
+use Rattle.decide.specs.Below.{product-below}
+use Rattle.numbers.proofs.Words.{unbias-natural}
+use Rattle.meaning.specs.Meaning.{Entry, Kind, sum, product, count, maximum, minimum, mixes, multiplied, Each}
+use Rattle.area.specs.Layout.{word, tag-at, written-at, merged-at, kind-of, constant-of, entries-of, entry-at, entry-words, rule-at}
+use Rattle.area.specs.Whole.{Near, EntryWhole, Once, weights-of}
+use Rattle.theory_check.specs.Theory.{SentenceOk}
+use Rattle.theory_check.specs.Words.{stored-entry, factor, ConstantOk, RecordOk, EntriesOk}
+use Rattle.theory_check.proofs.Listing.{listed, entries-listed, each-by, by-each, once-by, by-once, multiplied-listed}
+use Rattle.theory_check.proofs.Weights.{literal-low}
+use Rattle.theory_check.proofs.Entries.{EntryOk, weight-above}
+
+-- ---- the constant
+
+constant-near : (k : Kind) (written x : ℕ) → ConstantOk k written x → Near (constant-of k x) (1000000000 * written)
+constant-near sum written x h = h
+constant-near product written x h = omega arith
+constant-near count written x h = h
+constant-near maximum written x h = omega arith
+constant-near minimum written x h = omega arith
+
+constant-zero : (k : Kind) (written x : ℕ) → ConstantOk k written x → T (not (mixes k)) → x ≡ 0
+constant-zero sum written x h t = absurd t
+constant-zero product written x h t = h
+constant-zero count written x h t = absurd t
+constant-zero maximum written x h t = h
+constant-zero minimum written x h t = h
+
+constant-whole : (k : Kind) (written x : ℕ) → Near (constant-of k x) (1000000000 * written) → (T (not (mixes k)) → x ≡ 0) → ConstantOk k written x
+constant-whole sum written x h z = h
+constant-whole product written x h z = z tt
+constant-whole count written x h z = h
+constant-whole maximum written x h z = z tt
+constant-whole minimum written x h z = z tt
+
+-- ---- the kind of a product
+
+product-word : (t : ℕ) → kind-of t ≡ product → t ≡ 1
+product-word zero e = cc
+product-word (suc zero) e = refl
+product-word (suc (suc zero)) e = cc
+product-word (suc (suc (suc zero))) e = cc
+product-word (suc (suc (suc (suc k)))) e = cc
+
+word-product : (t : ℕ) → t ≡ 1 → kind-of t ≡ product
+word-product t e = ap {A = ℕ} kind-of e
+
+-- ---- the sentence at b, its merged entries inside the area
+
+module _ (lim : Limits) (w : List ℕ) (n S b : ℕ) (room : entry-at w n S b + 2 * merged-at w b ≤ length w) where
+  numbers : entries-of (entry-words w (entry-at w n S b) (merged-at w b)) ≡ listed (merged-at w b) (stored-entry w (entry-at w n S b))
+  numbers = entries-listed w (entry-at w n S b) (merged-at w b) room
+
+  product-is : tag-at w b % 8 ≡ 1 → ((i : ℕ) → i < merged-at w b → EntryOk w n b (entry-at w n S b) i)
+      → multiplied (weights-of (rule-at w n S b .set .entries)) ≡ pos (product-below (merged-at w b) (factor w (entry-at w n S b)))
+  product-is q h =
+      ap {A = List Entry} (λ es. multiplied (weights-of es)) numbers
+      ∙ multiplied-listed (merged-at w b) (stored-entry w (entry-at w n S b)) (factor w (entry-at w n S b))
+      (λ i l. unbias-natural (word w (entry-at w n S b + 2 * i)) (omega (arith, weight-above w n b (entry-at w n S b) i q (h i l))))
+
+  pub sentence-from : written-at w b ≤ lim .each → RecordOk w n b → EntriesOk w n b (entry-at w n S b)
+      → ((i : ℕ) → entry-at w n S b + 2 * merged-at w b ≤ i → i < entry-at w n S b + 2 * written-at w b → word w i ≡ 0) → SentenceOk lim w n S b
+  sentence-from few own es rest = record {
+    kind = own .kind;
+    tag = own .tag;
+    rule = record {
+      few = few;
+      head-low = own .head-low;
+      head-high = own .head-high;
+      bound = own .bound;
+      constant = constant-near (kind-of (tag-at w b % 8)) (written-at w b) (word w (b + 3)) (own .constant);
+      entries = subst (λ (l : List Entry). Each (EntryWhole n (word w b) (kind-of (tag-at w b % 8)) (written-at w b)) l) (sym numbers)
+          (by-each (EntryWhole n (word w b) (kind-of (tag-at w b % 8)) (written-at w b)) (merged-at w b) (stored-entry w (entry-at w n S b)) (es .each));
+      once = subst (λ (l : List Entry). Once l) (sym numbers) (by-once (merged-at w b) (stored-entry w (entry-at w n S b)) (es .once));
+      product = λ k.
+          let q = product-word (tag-at w b % 8) k in
+          subst (λ (z : ℤ). T (leZ z (pos 1000000000000000000))) (sym (product-is q (es .each)))
+          (le→leb (product-below (merged-at w b) (factor w (entry-at w n S b))) 1000000000000000000 (es .product q));
+    };
+    constant = constant-zero (kind-of (tag-at w b % 8)) (written-at w b) (word w (b + 3)) (own .constant);
+    unused = λ i l h. rest (entry-at w n S b + i) (omega arith) (omega arith);
+  }
+
+  pub own-words : SentenceOk lim w n S b → RecordOk w n b
+  own-words s = record {
+    head-low = s .rule .head-low;
+    head-high = s .rule .head-high;
+    kind = s .kind;
+    tag = s .tag;
+    bound = s .rule .bound;
+    constant = constant-whole (kind-of (tag-at w b % 8)) (written-at w b) (word w (b + 3)) (s .rule .constant) (s .constant);
+  }
+
+  each-whole : SentenceOk lim w n S b → (i : ℕ) → i < merged-at w b → EntryOk w n b (entry-at w n S b) i
+  each-whole s =
+      each-by (EntryWhole n (word w b) (kind-of (tag-at w b % 8)) (written-at w b)) (merged-at w b) (stored-entry w (entry-at w n S b))
+      (subst (λ (l : List Entry). Each (EntryWhole n (word w b) (kind-of (tag-at w b % 8)) (written-at w b)) l) numbers (s .rule .entries))
+
+  pub own-entries : SentenceOk lim w n S b → EntriesOk w n b (entry-at w n S b)
+  own-entries s = record {
+    each = each-whole s;
+    once = once-by (merged-at w b) (stored-entry w (entry-at w n S b)) (subst (λ (l : List Entry). Once l) numbers (s .rule .once));
+    product = λ q. leb→le (product-below (merged-at w b) (factor w (entry-at w n S b))) 1000000000000000000
+        (subst (λ (z : ℤ). T (leZ z (pos 1000000000000000000))) (product-is q (each-whole s)) (s .rule .product (word-product (tag-at w b % 8) q)));
+  }
+
+  pub own-rest : SentenceOk lim w n S b → (i : ℕ) → entry-at w n S b + 2 * merged-at w b ≤ i → i < entry-at w n S b + 2 * written-at w b → word w i ≡ 0
+  own-rest s i l h =
+      let e : entry-at w n S b + (i - entry-at w n S b) ≡ i = omega arith in
+      ap {A = ℕ} (word w) (sym e) ∙ s .unused (i - entry-at w n S b) (omega arith) (omega arith)
+
+  -- the merged entries' words are of literals
+  pub literals-low : SentenceOk lim w n S b → (i : ℕ) → i < merged-at w b → 2 ≤ word w (entry-at w n S b + 2 * i + 1)
+  literals-low s i l = literal-low (word w (entry-at w n S b + 2 * i + 1)) (each-whole s i l .atom-low)

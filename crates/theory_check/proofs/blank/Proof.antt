@@ -1,0 +1,63 @@
+-- The words passed are 0.
+-- Assumes nothing.
+use mathlib.Core.Path.{_≡_, ap, _∙_}
+use mathlib.Core.Logic.{⊎-elim}
+use Prim.Native.Nat.{ℕ, _≤_, _<_, _-_}
+use native.Mathlib.Omega.{arith}
+use native.Mathlib.Nat.{eq-or-lt-of-le}
+use borrow.Author.Needs.{needs}
+use Rattle.decide.proofs.Tells.{told-yes, told-no}
+use Rattle.area.specs.Layout.{word}
+use Rattle.theory_check.proofs.blank.Statement.{statement}
+use Rattle.theory_check.proofs.blank.Tie as tie
+
+abbrev Inv-loop : tie.InvT-loop
+Inv-loop area from to i₀ i = (from ≤ i) × ((j : ℕ) → from ≤ j → j < i → word area j ≡ 0)
+
+abbrev μ-loop : tie.MeasureT-loop
+μ-loop area from to i₀ i = to - i
+
+loop-holds : tie.Need-loop-holds Inv-loop μ-loop
+loop-holds c = (omega arith, λ j a b. absurd (omega arith))
+
+mul-if1 : tie.Need-mul-if1 Inv-loop μ-loop
+mul-if1 c = search needs
+
+shared-slice-read-if1 : tie.Need-shared-slice-read-if1 Inv-loop μ-loop
+shared-slice-read-if1 c = search needs
+
+returns : tie.Need-returns Inv-loop μ-loop
+returns c = told-no (λ h. c .if1 .taken (h _ (c .before .before .before .loop .inv .0) (omega arith)))
+
+add-i : tie.Need-add-i Inv-loop μ-loop
+add-i c = search needs
+
+loop-less : tie.Need-loop-less Inv-loop μ-loop
+loop-less c = search needs
+
+loop-again : tie.Need-loop-again Inv-loop μ-loop
+loop-again c = (
+  omega arith,
+  λ j a b. ⊎-elim
+      (λ (e : j ≡ c .before .before .before .loop .i). ap {A = ℕ} (word (c .before .before .before .before .args .area .now)) e ∙ c .if1 .left)
+      (λ (m : j < c .before .before .before .loop .i). c .before .before .before .loop .inv .1 j a m)
+      (eq-or-lt-of-le (omega arith)),
+)
+
+returns-2 : tie.Need-returns-2 Inv-loop μ-loop
+returns-2 c = told-yes (λ j a b. c .before .loop .inv .1 j a (omega arith))
+
+pub blank-spec : {M : Type 1} → statement M
+blank-spec =
+    tie.close
+    (tie.spec
+    Inv-loop
+    μ-loop
+    loop-holds
+    mul-if1
+    shared-slice-read-if1
+    returns
+    add-i
+    loop-less
+    loop-again
+    returns-2)

@@ -1,0 +1,147 @@
+-- The record, the entries and the unused words are told of, and a sentence is whole where these are (`Sentences`).
+-- Assumes nothing.
+use native.Mathlib.Omega.{arith}
+use borrow.Author.Needs.{needs}
+use Rattle.decide.proofs.Tells.{told-yes, told-no, denied, granted}
+use Rattle.theory_check.proofs.Stamping.{stamps-more}
+use Rattle.theory_check.proofs.Sentences.{sentence-from, own-words, own-entries, own-rest}
+use Rattle.theory_check.proofs.sentence_ok.Statement.{statement}
+use Rattle.theory_check.proofs.sentence_ok.Tie as tie
+
+record-ok-requires : tie.Need-record-ok-requires
+record-ok-requires c κs = search needs
+
+returns : tie.Need-returns
+returns c = let s = c .before .before .before .before in
+    record {
+      tells = told-no (λ h. denied (c .before .record-ok .ensures) (c .if1 .taken)
+          (own-words (s .args .lim) (s .args .area .now) (s .args .n) (s .args .count) (s .args .base) (omega (arith, s .pre .room, s .pre .merged)) h));
+      stamps = stamps-more (s .args .seen .now) (s .args .old) _ (s .pre .stamps) (omega arith);
+    }
+
+mul-at : tie.Need-mul-at
+mul-at c = search needs
+
+mul-at-2 : tie.Need-mul-at-2
+mul-at-2 c = search needs
+
+add-at : tie.Need-add-at
+add-at c = search needs
+
+add-at-2 : tie.Need-add-at-2
+add-at-2 c = search needs
+
+mul-at-3 : tie.Need-mul-at-3
+mul-at-3 c = search needs
+
+shared-slice-read-at : tie.Need-shared-slice-read-at
+shared-slice-read-at c = search needs
+
+mul-at-4 : tie.Need-mul-at-4
+mul-at-4 c = search needs
+
+add-at-3 : tie.Need-add-at-3
+add-at-3 c = search needs
+
+entries-ok-requires : tie.Need-entries-ok-requires
+entries-ok-requires c κs = let s = c .before .before .before .before .before .before in
+    record {
+      atoms = omega (arith, s .pre .atoms-high, s .pre .fitting .atoms);
+      own = s .pre .own;
+      kind = granted (c .before .before .before .record-ok .ensures) (c .before .before .if1 .left) .kind;
+      few = omega (arith, s .pre .few, s .pre .fitting .each);
+      merged = omega (arith, s .pre .few, s .pre .merged, s .pre .fitting .each);
+      room = omega (arith, s .pre .room, s .pre .merged);
+      stamps = s .pre .stamps;
+      stamps-high = omega (arith, s .pre .stamps-high);
+    }
+
+same-length : tie.Need-same-length
+same-length c = search needs
+
+returns-2 : tie.Need-returns-2
+returns-2 c = let s = c .before .before .before .before .before .before .before .before .before .before in
+    record {
+      tells = told-no (λ h. denied (c .before .before .before .entries-ok .ensures .tells) (c .if2 .taken)
+          (own-entries (s .args .lim) (s .args .area .now) (s .args .n) (s .args .count) (s .args .base) (omega (arith, s .pre .room, s .pre .merged)) h));
+      stamps = stamps-more _ _ _ (c .before .before .before .entries-ok .ensures .stamps) (omega (arith, s .pre .merged));
+    }
+
+add-counts : tie.Need-add-counts
+add-counts c = search needs
+
+mul-counts : tie.Need-mul-counts
+mul-counts c = search needs
+
+shared-slice-read-counts : tie.Need-shared-slice-read-counts
+shared-slice-read-counts c = search needs
+
+mul-blank : tie.Need-mul-blank
+mul-blank c = search needs
+
+add-blank : tie.Need-add-blank
+add-blank c = search needs
+
+mul-blank-2 : tie.Need-mul-blank-2
+mul-blank-2 c = search needs
+
+add-blank-2 : tie.Need-add-blank-2
+add-blank-2 c = search needs
+
+blank-requires : tie.Need-blank-requires
+blank-requires c κs = search needs
+
+same-length-2 : tie.Need-same-length-2
+same-length-2 c = search needs
+
+returns-3 : tie.Need-returns-3
+returns-3 c = let s = c .before .before .before .before .before .before .before .before .before .before .before .before .before in
+    record {
+      tells = told-no (λ h. denied (c .before .blank .ensures) (c .if3 .taken)
+          (own-rest (s .args .lim) (s .args .area .now) (s .args .n) (s .args .count) (s .args .base) (omega (arith, s .pre .room, s .pre .merged)) h));
+      stamps = stamps-more _ _ _ (c .before .before .before .before .before .before .entries-ok .ensures .stamps) (omega (arith, s .pre .merged));
+    }
+
+same-length-3 : tie.Need-same-length-3
+same-length-3 c = search needs
+
+returns-4 : tie.Need-returns-4
+returns-4 c = let s = c .before .before .before .before .before .before .before .before .before .before .before .before .before in
+    record {
+      tells = told-yes (sentence-from (s .args .lim) (s .args .area .now) (s .args .n) (s .args .count) (s .args .base) (omega (arith, s .pre .room, s .pre .merged))
+          (s .pre .few)
+          (granted (c .before .before .before .before .before .before .before .before .before .before .record-ok .ensures) (c .before .before .before .before .before .before .before .before .before .if1 .left))
+          (granted (c .before .before .before .before .before .before .entries-ok .ensures .tells) (c .before .before .before .if2 .left))
+          (granted (c .before .blank .ensures) (c .if3 .left)));
+      stamps = stamps-more _ _ _ (c .before .before .before .before .before .before .entries-ok .ensures .stamps) (omega (arith, s .pre .merged));
+    }
+
+pub sentence-ok-spec : {M : Type 1} → statement M
+sentence-ok-spec =
+    tie.close
+    (tie.spec
+    record-ok-requires
+    returns
+    mul-at
+    mul-at-2
+    add-at
+    add-at-2
+    mul-at-3
+    shared-slice-read-at
+    mul-at-4
+    add-at-3
+    entries-ok-requires
+    same-length
+    returns-2
+    add-counts
+    mul-counts
+    shared-slice-read-counts
+    mul-blank
+    add-blank
+    mul-blank-2
+    add-blank-2
+    blank-requires
+    same-length-2
+    returns-3
+    same-length-3
+    returns-4)

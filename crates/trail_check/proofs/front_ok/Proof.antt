@@ -1,0 +1,56 @@
+-- `front_ok` meets its contract: the words from 1 to below i are 0, and the measure is what is left.
+-- Assumes nothing.
+use mathlib.Core.Path.{_≡_}
+use Prim.Native.Nat.{ℕ, _≤_, _<_, _-_}
+use native.Mathlib.Omega.{arith}
+use borrow.Author.Needs.{needs}
+use borrow.Author.Count.{below-more}
+use Rattle.decide.proofs.Tells.{told-yes, told-no}
+use Rattle.area.specs.Layout.{word}
+use Rattle.trail_check.proofs.front_ok.Statement.{statement}
+use Rattle.trail_check.proofs.front_ok.Tie as tie
+
+abbrev Inv-loop : tie.InvT-loop
+Inv-loop area n i₀ i = (1 ≤ i) × ((k : ℕ) → k < i → 1 ≤ k → word area k ≡ 0)
+
+abbrev μ-loop : tie.MeasureT-loop
+μ-loop area n i₀ i = n - i
+
+loop-holds : tie.Need-loop-holds Inv-loop μ-loop
+loop-holds c = (omega arith, λ k l m. absurd (omega arith))
+
+mul-if1 : tie.Need-mul-if1 Inv-loop μ-loop
+mul-if1 c = search needs
+
+shared-slice-read-if1 : tie.Need-shared-slice-read-if1 Inv-loop μ-loop
+shared-slice-read-if1 c = search needs
+
+returns : tie.Need-returns Inv-loop μ-loop
+returns c = told-no (λ h. c .if1 .taken (h _ (omega arith) (omega arith)))
+
+add-i : tie.Need-add-i Inv-loop μ-loop
+add-i c = search needs
+
+loop-less : tie.Need-loop-less Inv-loop μ-loop
+loop-less c = search needs
+
+loop-again : tie.Need-loop-again Inv-loop μ-loop
+loop-again c = (omega arith, below-more _ _ (c .before .before .before .loop .inv .1) (λ _. c .if1 .left))
+
+returns-2 : tie.Need-returns-2 Inv-loop μ-loop
+returns-2 c = told-yes (λ k m l. c .before .loop .inv .1 k (omega arith) m)
+
+pub front-ok-spec : {M : Type 1} → statement M
+front-ok-spec =
+    tie.close
+    (tie.spec
+    Inv-loop
+    μ-loop
+    loop-holds
+    mul-if1
+    shared-slice-read-if1
+    returns
+    add-i
+    loop-less
+    loop-again
+    returns-2)

@@ -1,0 +1,70 @@
+-- `levels_ok` meets its contract: all levels rise up to `level` exactly where those of the rows left rise up to `high`, the level of
+-- the row passed last; the measure is the rows left.
+-- Assumes nothing.
+use Prim.Native.Nat.{_≤_}
+use native.Mathlib.Omega.{arith}
+use borrow.Author.Needs.{needs}
+use Rattle.decide.proofs.Tells.{told-yes, told-no}
+use Rattle.area.specs.Layout.{rows-from}
+use Rattle.area.specs.Whole.{Rising}
+use Rattle.trail_check.proofs.Levels.{rising-row, rising-more, rising-none}
+use Rattle.trail_check.proofs.levels_ok.Statement.{statement}
+use Rattle.trail_check.proofs.levels_ok.Tie as tie
+
+abbrev Inv-loop : tie.InvT-loop
+Inv-loop area n len level high₀ left₀ high left =
+    (left ≤ len) × (Rising high (rows-from area n left) → Rising level (rows-from area n len)) × (Rising level (rows-from area n len) → Rising high (rows-from area n left))
+
+abbrev μ-loop : tie.MeasureT-loop
+μ-loop area n len level high₀ left₀ high left = left
+
+loop-holds : tie.Need-loop-holds Inv-loop μ-loop
+loop-holds c = (omega arith, (λ h. h), λ h. h)
+
+sub-left : tie.Need-sub-left Inv-loop μ-loop
+sub-left c = search needs
+
+mul-g : tie.Need-mul-g Inv-loop μ-loop
+mul-g c = search needs
+
+add-g : tie.Need-add-g Inv-loop μ-loop
+add-g c = search needs
+
+mul-g-2 : tie.Need-mul-g-2 Inv-loop μ-loop
+mul-g-2 c = search needs
+
+shared-slice-read-g : tie.Need-shared-slice-read-g Inv-loop μ-loop
+shared-slice-read-g c = search needs
+
+returns : tie.Need-returns Inv-loop μ-loop
+returns c = told-no (λ h. let q = rising-row _ _ _ _ (omega arith) (c .before .before .before .loop .inv .2 h) .0 in omega arith)
+
+loop-less : tie.Need-loop-less Inv-loop μ-loop
+loop-less c = search needs
+
+loop-again : tie.Need-loop-again Inv-loop μ-loop
+loop-again c = (
+  omega arith,
+  (λ h. c .before .before .before .loop .inv .1 (rising-more _ _ _ _ (omega arith) (omega arith) h)),
+  λ h. rising-row _ _ _ _ (omega arith) (c .before .before .before .loop .inv .2 h) .1,
+)
+
+returns-2 : tie.Need-returns-2 Inv-loop μ-loop
+returns-2 c = told-yes (c .before .loop .inv .1 (rising-none _ _ _ _ (omega arith)))
+
+pub levels-ok-spec : {M : Type 1} → statement M
+levels-ok-spec =
+    tie.close
+    (tie.spec
+    Inv-loop
+    μ-loop
+    loop-holds
+    sub-left
+    mul-g
+    add-g
+    mul-g-2
+    shared-slice-read-g
+    returns
+    loop-less
+    loop-again
+    returns-2)
