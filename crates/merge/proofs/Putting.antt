@@ -106,7 +106,6 @@ module _ {part table : List ℕ} {n kind x l : ℕ} (p : Puttable part table n k
       entries = new-entries;
       places = rw new-entries new-places;
       literals = new-literals;
-      least = omega arith;
       most = omega arith;
     }
 
@@ -155,6 +154,5 @@ module _ {part table : List ℕ} {n kind x l : ℕ} (p : Puttable part table n k
         entries = old-entries;
         places = rw old-entries old-places;
         literals = old-literals;
-        least = omega arith;
         most = omega arith;
       }

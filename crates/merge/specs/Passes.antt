@@ -39,6 +39,7 @@ freed count e = freed-by (e .weight) (e .literal)
 freed maximum e = pos 0
 freed minimum e = pos 0
 
+-- the same, as words
 pub record TurnedIs (kind x l : ℕ) (r : Turned) : Type 0 where
   pub entry : entry-of (r .weight) (r .literal) ≡ turn (kind-of kind) (entry-of x l)
   pub freed-is : unbias (r .freed) ≡ freed (kind-of kind) (entry-of x l)
@@ -59,11 +60,12 @@ Joinable minimum v w = Unit {0}
 abbrev pub first-entries : List ℕ → ℕ → List Entry
 first-entries w n = entries-of (take (2 * n) w)
 
--- 1 more than the place of the entry with the literal, or 0
+-- one place further, where there is one
 abbrev pub after : ℕ → ℕ
 after zero = 0
 after (suc k) = suc (suc k)
 
+-- 1 more than the place of the entry with the literal, or 0
 unfoldable pub slot : List Entry → ℤ → ℕ
 slot [] l = 0
 slot (x ∷ xs) l = cond (same (x .literal) l) 1 (after (slot xs l))
@@ -90,7 +92,6 @@ pub record PutInto (before part table : List ℕ) (n kind x l r : ℕ) : Type 0 
   pub entries : first-entries part r ≡ put (kind-of kind) (first-entries before n) (entry-of x l)
   pub places : Places table (first-entries part r)
   pub literals : Literals before n → Literals part r
-  pub least : n ≤ r
   pub most : r ≤ n + 1
 
 -- ---- literals mentioned
@@ -98,6 +99,7 @@ pub record PutInto (before part table : List ℕ) (n kind x l r : ℕ) : Type 0 
 abbrev pub mentioned : ℤ → List Entry → Bool
 mentioned l es = some (λ x. same (x .literal) l) es
 
+-- the table tells of each literal whether it is mentioned, at the literal's word
 pub record Seen (table : List Bool) (es : List Entry) : Type 0 where
   pub size : length table ≡ 8194
   pub each : (l : ℤ) → atom l ≤ 4096 → getD table (literal-word l) false ≡ mentioned l es
@@ -137,12 +139,13 @@ pub record Takeable (kind : ℕ) (es : List Entry) (x l words : ℕ) : Type 0 wh
   pub fit : Each (λ e. T (weight-fits (kind-of kind) (e .weight))) es
   pub product : kind-of kind ≡ product → T (leZ (multiplied (weights-of (es ++ (entry-of x l ∷ [])))) (pos 1000000000000000000))
 
+-- what taking one entry more asks and leaves
 pub record Addable (part table : List ℕ) (seen : List Bool) (kind x l : ℕ) (m : Merged) : Type 0 where
   pub before : List Entry
   pub gathered : Gathered kind before part table seen (m .count) (m .constant)
   pub takeable : Takeable kind before x l (length part)
 
--- whatever entries were taken before, this one is taken after them
+-- whatever entries were taken before
 pub record Added (part table : List ℕ) (seen : List Bool) (part′ table′ : List ℕ) (seen′ : List Bool) (kind x l : ℕ) (m r : Merged) : Type 0 where
   pub next : (es : List Entry) → Gathered kind es part table seen (m .count) (m .constant) → Takeable kind es x l (length part)
       → Gathered kind (es ++ (entry-of x l ∷ [])) part′ table′ seen′ (r .count) (r .constant)
@@ -155,6 +158,7 @@ pub record Sifted (before part : List ℕ) (n r : ℕ) : Type 0 where
   pub literals : Literals before n → Literals part r
   pub few : r ≤ n
 
+-- words 0 from a place on
 pub record Wiped (before part : List ℕ) (from : ℕ) : Type 0 where
   pub front : take from part ≡ take from before
   pub rest : (i : ℕ) → from ≤ i → i < length before → word part i ≡ 0
