@@ -1,0 +1,130 @@
+-- The words of signed numbers from size and sign, and what the turned entry is, by the kind and the literal's sign.
+-- Assumes nothing.
+use mathlib.Core.Path.{_≡_, refl, sym, ap, _∙_}
+use mathlib.Core.Bool.{Bool, true, false, not}
+use Prim.Native.Nat.{ℕ, zero, suc, _+_, _-_, _*_, _/_, _%_, _≤_}
+use native.Mathlib.Omega.{arith}
+use lib.IntN.{ℤ, pos, negsuc, natAbs}
+use lib.Dec.{eqb}
+use borrow.Author.Tests.{ne-eqb}
+use Rattle.numbers.specs.Words.{half, bias, literal-word, literal-of}
+use Rattle.numbers.proofs.Words.{unbias-zero, unbias-neg, literal-even, literal-odd}
+use mir.Syntax.{w64}
+use mir.Val.{SFits}
+use mir.ValLaws.{toZ-ofZ}
+use Rattle.signed.specs.Sign.{is-negative}
+use Rattle.signed.proofs.Casts.{back}
+use Rattle.meaning.specs.Meaning.{Entry, Kind, sum, product, count, maximum, minimum, mixes}
+use Rattle.meaning.specs.Merge.{turned-by, freed-by}
+use Rattle.area.specs.Layout.{kind-of}
+use Rattle.merge.specs.Passes.{entry-of, turn, freed, TurnedIs, taken}
+
+-- ---- from size and sign
+
+-- a signed number's bits, read back, are the number
+pub size-is : (z : ℤ) (s : ℕ) → SFits w64 z → s ≡ natAbs (back z) → s ≡ natAbs z
+size-is z s f e = e ∙ ap natAbs (toZ-ofZ w64 z f)
+
+pub sign-is : (z : ℤ) (b c : Bool) → SFits w64 z → b ≡ is-negative (back z) → b ≡ c → is-negative z ≡ c
+sign-is z b c f e t = ap is-negative (sym (toZ-ofZ w64 z f)) ∙ sym e ∙ t
+
+pub weight-negative : (w : ℤ) (s : ℕ) → s ≡ natAbs w → is-negative w ≡ true → half - s ≡ bias w
+weight-negative (pos n) s e t = cc
+weight-negative (negsuc n) s e t = omega arith
+
+pub weight-positive : (w : ℤ) (s : ℕ) → s ≡ natAbs w → is-negative w ≡ false → half + s ≡ bias w
+weight-positive (pos n) s e t = omega arith
+weight-positive (negsuc n) s e t = cc
+
+pub literal-negative : (l : ℤ) (s : ℕ) → s ≡ natAbs l → is-negative l ≡ true → 2 * s + 1 ≡ literal-word l
+literal-negative (pos n) s e t = cc
+literal-negative (negsuc n) s e t = omega arith
+
+pub literal-positive : (l : ℤ) (s : ℕ) → s ≡ natAbs l → is-negative l ≡ false → 2 * s ≡ literal-word l
+literal-positive (pos n) s e t = omega arith
+literal-positive (negsuc n) s e t = cc
+
+-- ---- by the kind's number
+
+pub mixes-two : (kind : ℕ) → (kind ≡ 0 → ⊥) → eqb kind 2 ≡ mixes (kind-of kind)
+mixes-two zero h = absurd (h refl)
+mixes-two (suc zero) h = refl
+mixes-two (suc (suc zero)) h = refl
+mixes-two (suc (suc (suc zero))) h = refl
+mixes-two (suc (suc (suc (suc k)))) h = ne-eqb (suc (suc (suc (suc k)))) 2 (λ e. omega arith)
+
+pub is-minimum : (kind : ℕ) → mixes (kind-of kind) ≡ false → (kind ≡ 1 → ⊥) → (kind ≡ 3 → ⊥) → kind-of kind ≡ minimum
+is-minimum zero m p q = cc
+is-minimum (suc zero) m p q = absurd (p refl)
+is-minimum (suc (suc zero)) m p q = cc
+is-minimum (suc (suc (suc zero))) m p q = absurd (q refl)
+is-minimum (suc (suc (suc (suc k)))) m p q = refl
+
+pub taken-count : (kind : ℕ) (b : Bool) → kind ≡ 2 → not b ≡ taken (kind-of kind) b
+taken-count kind b e = rw e
+
+pub taken-other : (kind : ℕ) (b : Bool) → (kind ≡ 2 → ⊥) → true ≡ taken (kind-of kind) b
+taken-other zero b h = refl
+taken-other (suc zero) b h = refl
+taken-other (suc (suc zero)) b h = absurd (h refl)
+taken-other (suc (suc (suc zero))) b h = refl
+taken-other (suc (suc (suc (suc k)))) b h = refl
+
+-- ---- turned entries
+
+turn-plain : (k : Kind) (e : Entry) → mixes k ≡ false → turn k e ≡ e
+turn-plain sum e h = cc
+turn-plain product e h = refl
+turn-plain count e h = cc
+turn-plain maximum e h = refl
+turn-plain minimum e h = refl
+
+freed-plain : (k : Kind) (e : Entry) → mixes k ≡ false → freed k e ≡ pos 0
+freed-plain sum e h = cc
+freed-plain product e h = refl
+freed-plain count e h = cc
+freed-plain maximum e h = refl
+freed-plain minimum e h = refl
+
+turn-mixed : (k : Kind) (e : Entry) → mixes k ≡ true → turn k e ≡ turned-by (e .weight) (e .literal)
+turn-mixed sum e h = refl
+turn-mixed product e h = cc
+turn-mixed count e h = refl
+turn-mixed maximum e h = cc
+turn-mixed minimum e h = cc
+
+freed-mixed : (k : Kind) (e : Entry) → mixes k ≡ true → freed k e ≡ freed-by (e .weight) (e .literal)
+freed-mixed sum e h = refl
+freed-mixed product e h = cc
+freed-mixed count e h = refl
+freed-mixed maximum e h = cc
+freed-mixed minimum e h = cc
+
+pub turned-plain : (kind x l : ℕ) → mixes (kind-of kind) ≡ false → 2 ≤ l → l ≤ 8193 → TurnedIs kind x l (record { weight = x; literal = l; freed = half })
+turned-plain kind x l m low high = record {
+  entry = sym (turn-plain (kind-of kind) (entry-of x l) m);
+  freed-is = unbias-zero ∙ sym (freed-plain (kind-of kind) (entry-of x l) m);
+  low = low;
+  high = high;
+}
+
+pub turned-even : (kind x l : ℕ) → mixes (kind-of kind) ≡ true → l % 2 ≡ 0 → 2 ≤ l → l ≤ 8193 → TurnedIs kind x l (record { weight = x; literal = l; freed = half })
+turned-even kind x l m e low high = record {
+  entry = sym (turn-mixed (kind-of kind) (entry-of x l) m ∙ rw (literal-even l e));
+  freed-is = unbias-zero ∙ sym (freed-mixed (kind-of kind) (entry-of x l) m ∙ rw (literal-even l e));
+  low = low;
+  high = high;
+}
+
+pub turned-odd : (kind x l : ℕ) → mixes (kind-of kind) ≡ true → l % 2 ≡ 1 → 2 ≤ l → l ≤ 8193 → x ≤ 9223372036854775808
+    → TurnedIs kind x l (record { weight = 9223372036854775808 - x; literal = l - 1; freed = x })
+turned-odd kind x l m e low high h =
+    let p : (l - 1) % 2 ≡ 0 = omega arith in
+    let q : (l - 1) / 2 ≡ suc (l / 2 - 1) = omega arith in
+    let even : literal-of (l - 1) ≡ pos (suc (l / 2 - 1)) = literal-even (l - 1) p ∙ ap pos q in
+    record {
+      entry = rw (even, unbias-neg x h) (sym (turn-mixed (kind-of kind) (entry-of x l) m ∙ rw (literal-odd l low e)));
+      freed-is = sym (freed-mixed (kind-of kind) (entry-of x l) m ∙ rw (literal-odd l low e));
+      low = omega arith;
+      high = omega arith;
+    }

@@ -1,0 +1,97 @@
+-- The slot of a literal, 1 more than the place of its entry or 0: `put` joins at the slot, or puts the entry at the end where there is none.
+-- Assumes nothing.
+use mathlib.Core.Path.{_≡_, refl, ap, _∙_}
+use mathlib.Core.Bool.{Bool, true, false, cond}
+use mathlib.Core.List.{List, [], _∷_, _++_}
+use Prim.Native.Nat.{ℕ, zero, suc, _≤_, _<_}
+use native.Mathlib.Omega.{arith}
+use lib.IntN.{ℤ}
+use lib.ListN.{length, getD, set}
+use lib.Dec.{T}
+use Rattle.meaning.specs.Meaning.{Entry, Kind, same}
+use Rattle.meaning.specs.Merge.{put}
+use Rattle.meaning.proofs.Members.{same→eq, eq→same, join}
+use Rattle.meaning.proofs.Orders.{is-true, is-false}
+use Rattle.merge.specs.Passes.{after, slot}
+
+after-zero : (n : ℕ) → after n ≡ 0 → n ≡ 0
+after-zero zero e = refl
+after-zero (suc n) e = let b : ⊥ = omega arith in absurd b
+
+-- a literal with no entry goes to the end
+pub put-new : (k : Kind) (xs : List Entry) (e : Entry) → slot xs (e .literal) ≡ 0 → put k xs e ≡ xs ++ (e ∷ [])
+unfolding put slot
+put-new k [] e h = refl
+put-new k (x ∷ xs) e h = go (same (x .literal) (e .literal)) (put-new k xs e) h
+  where
+    go : (b : Bool) → (slot xs (e .literal) ≡ 0 → put k xs e ≡ xs ++ (e ∷ [])) → cond b 1 (after (slot xs (e .literal))) ≡ 0
+        → cond b (join k x e ∷ xs) (x ∷ put k xs e) ≡ x ∷ (xs ++ (e ∷ []))
+    go true ih q = let b : ⊥ = omega arith in absurd b
+    go false ih q = ap (λ r. x ∷ r) (ih (after-zero (slot xs (e .literal)) q))
+
+-- an entry that is there keeps its place
+pub record Found (k : Kind) (xs : List Entry) (e d : Entry) (i : ℕ) : Type 0 where
+  pub low : i < length xs
+  pub literal : getD xs i d .literal ≡ e .literal
+  pub put-is : put k xs e ≡ set xs i (join k (getD xs i d) e)
+
+pub put-old : (k : Kind) (xs : List Entry) (e d : Entry) (i : ℕ) → slot xs (e .literal) ≡ suc i → Found k xs e d i
+unfolding put slot
+put-old k [] e d i h = let b : ⊥ = omega arith in absurd b
+put-old k (x ∷ xs) e d i h =
+    let p = by (same (x .literal) (e .literal)) (same→eq (x .literal) (e .literal)) (slot xs (e .literal)) i (put-old k xs e d) refl h in
+    record { low = p .0; literal = p .1; put-is = p .2 }
+  where
+    by : (b : Bool) → (T b → x .literal ≡ e .literal) → (s j : ℕ) → ((m : ℕ) → slot xs (e .literal) ≡ suc m → Found k xs e d m) → slot xs (e .literal) ≡ s → cond b 1 (after s) ≡ suc j
+        → (j < length (x ∷ xs)) × (getD (x ∷ xs) j d .literal ≡ e .literal) × (cond b (join k x e ∷ xs) (x ∷ put k xs e) ≡ set (x ∷ xs) j (join k (getD (x ∷ xs) j d) e))
+    by true eq s zero ih r q = (omega arith, eq tt, refl)
+    by true eq s (suc j) ih r q = let b : ⊥ = omega arith in absurd b
+    by false eq zero j ih r q = let b : ⊥ = omega arith in absurd b
+    by false eq (suc s) zero ih r q = let b : ⊥ = omega arith in absurd b
+    by false eq (suc s) (suc j) ih r q = let o = ih j (omega arith) in (omega (arith, o .low), o .literal, ap (λ r. x ∷ r) (o .put-is))
+
+-- ---- the slots after one entry more
+
+same-refl : (l : ℤ) → same l l ≡ true
+same-refl l = is-true (eq→same l l refl)
+
+pub slot-other : (k : Kind) (xs : List Entry) (e : Entry) (l : ℤ) → (e .literal ≡ l → ⊥) → slot (put k xs e) l ≡ slot xs l
+unfolding put slot
+slot-other k [] e l d = let f : same (e .literal) l ≡ false = is-false (λ t. d (same→eq (e .literal) l t)) in rw f
+slot-other k (x ∷ xs) e l d = go (same (x .literal) (e .literal)) (slot-other k xs e l d)
+  where
+    go : (b : Bool) → slot (put k xs e) l ≡ slot xs l → slot (cond b (join k x e ∷ xs) (x ∷ put k xs e)) l ≡ cond (same (x .literal) l) 1 (after (slot xs l))
+    go true ih = refl
+    go false ih = ap (λ s. cond (same (x .literal) l) 1 (after s)) ih
+
+pub slot-new : (k : Kind) (xs : List Entry) (e : Entry) → slot xs (e .literal) ≡ 0 → slot (put k xs e) (e .literal) ≡ suc (length xs)
+unfolding put slot
+slot-new k [] e h = ap (λ b. cond b 1 0) (same-refl (e .literal))
+slot-new k (x ∷ xs) e h = go (same (x .literal) (e .literal)) refl (slot-new k xs e) h
+  where
+    go : (b : Bool) → same (x .literal) (e .literal) ≡ b → (slot xs (e .literal) ≡ 0 → slot (put k xs e) (e .literal) ≡ suc (length xs)) → cond b 1 (after (slot xs (e .literal))) ≡ 0
+        → slot (cond b (join k x e ∷ xs) (x ∷ put k xs e)) (e .literal) ≡ suc (suc (length xs))
+    go true f ih q = let b : ⊥ = omega arith in absurd b
+    go false f ih q = ap (λ b. cond b 1 (after (slot (put k xs e) (e .literal)))) f ∙ ap after (ih (after-zero (slot xs (e .literal)) q))
+
+pub slot-old : (k : Kind) (xs : List Entry) (e : Entry) (i : ℕ) → slot xs (e .literal) ≡ suc i → slot (put k xs e) (e .literal) ≡ suc i
+unfolding put slot
+slot-old k [] e i h = let b : ⊥ = omega arith in absurd b
+slot-old k (x ∷ xs) e i h = go (same (x .literal) (e .literal)) refl (slot xs (e .literal)) i (slot-old k xs e) refl h
+  where
+    go : (b : Bool) → same (x .literal) (e .literal) ≡ b → (s j : ℕ) → ((m : ℕ) → slot xs (e .literal) ≡ suc m → slot (put k xs e) (e .literal) ≡ suc m) → slot xs (e .literal) ≡ s → cond b 1 (after s) ≡ suc j
+        → slot (cond b (join k x e ∷ xs) (x ∷ put k xs e)) (e .literal) ≡ suc j
+    go true f s j ih r q = ap (λ b. cond b 1 (after (slot xs (e .literal)))) f ∙ q
+    go false f zero j ih r q = let b : ⊥ = omega arith in absurd b
+    go false f (suc s) zero ih r q = let b : ⊥ = omega arith in absurd b
+    go false f (suc s) (suc j) ih r q = ap (λ b. cond b 1 (after (slot (put k xs e) (e .literal)))) f ∙ ap after (ih j (omega arith))
+
+pub slot-most : (xs : List Entry) (l : ℤ) → slot xs l ≤ length xs
+unfolding slot
+slot-most [] l = omega arith
+slot-most (x ∷ xs) l = go (same (x .literal) l) (slot xs l) (slot-most xs l)
+  where
+    go : (b : Bool) (s : ℕ) → s ≤ length xs → cond b 1 (after s) ≤ suc (length xs)
+    go true s h = omega arith
+    go false zero h = omega arith
+    go false (suc s) h = omega arith
