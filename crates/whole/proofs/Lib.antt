@@ -1,1 +1,4 @@
 pub mod Join
+pub mod DeterminedPlaces
+pub mod DeterminedWords
+pub mod Determined
