@@ -1,21 +1,19 @@
 -- Wholeness leaves nothing but the pending marks open: two whole areas of one length with the same sentences, rows, level and marks, and
 -- the same words past their needs, are the same words. Sentences and needs give the numbers of word 0; the rest is determined by them.
 -- Assumes nothing.
-use mathlib.Core.Path.{_≡_, refl, sym, _∙_, ap, subst}
-use mathlib.Core.Logic.{_⊎_, ⊎-elim}
-use mathlib.Core.List.{List, []}
+use mathlib.Core.Path.{_≡_, sym, _∙_, ap, subst}
+use mathlib.Core.Logic.{⊎-elim}
+use mathlib.Core.List.{List}
 use Prim.Native.Nat.{ℕ, zero, suc, _+_, _-_, _*_, _/_, _%_, _<_, _≤_}
 use native.Mathlib.Omega.{arith}
 use lib.ListN.{length, getD, drop, length-drop}
 use lib.Seq.{ext-getD, getD-drop}
-use lib.IntN.{pos}
 use Rattle.types.specs.declared.Limits.{Limits}
 use Rattle.numbers.proofs.Words.{cases}
-use Rattle.meaning.specs.Meaning.{sum, lower}
 use Rattle.meaning.specs.Merge.{Rule}
 use Rattle.book.specs.Rows.{Row}
 use Rattle.book.specs.Book.{Counters}
-use Rattle.area.specs.Layout.{word, atoms-of, sentences-of, length-of, level-of, rows-from, rows-of, record-at, pending-at, written-at, rule-at, rules-from, theory-of, entries-before, need-of}
+use Rattle.area.specs.Layout.{word, atoms-of, sentences-of, length-of, level-of, rows-from, rows-of, record-at, pending-at, rule-at, rules-from, theory-of, entries-before, need-of}
 use Rattle.area.specs.Whole.{Whole}
 use Rattle.trail_check.proofs.Rows.{rows-length}
 use Rattle.trail_check.proofs.Same.{mark-same}
@@ -25,13 +23,11 @@ use Rattle.whole.proofs.DeterminedWords.{Held, before-same, words-same}
 
 -- ---- the sentences by number
 
-none : Rule
-none = record { head = 0; kind = sum; side = lower; bound = pos 0; set = record { constant = pos 0; entries = [] }; written = 0 }
-
 rules-same : (w w′ : List ℕ) (n n′ S S′ : ℕ) → rules-from w n S 0 S ≡ rules-from w′ n′ S′ 0 S′ → S ≡ S′ → (s : ℕ) → s < S
     → rule-at w n S (record-at n s) ≡ rule-at w′ n′ S′ (record-at n′ s)
 rules-same w w′ n n′ S S′ e q s l =
-    sym (rules-numbered w n S s none l) ∙ ap {A = List Rule} (λ rs. getD rs s none) e ∙ rules-numbered w′ n′ S′ s none (omega arith)
+    let r = rule-at w n S (record-at n s) in
+    sym (rules-numbered w n S s r l) ∙ ap {A = List Rule} (λ rs. getD rs s r) e ∙ rules-numbered w′ n′ S′ s r (omega arith)
 
 -- ---- word 0 is its four fields
 

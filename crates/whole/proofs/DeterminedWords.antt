@@ -2,7 +2,7 @@
 -- those of each sentence; and every word behind the trail is in some sentence's record or room.
 -- Assumes nothing.
 use mathlib.Core.Path.{_≡_, sym, _∙_, ap}
-use mathlib.Core.Logic.{_⊎_, ⊎-elim}
+use mathlib.Core.Logic.{⊎-elim}
 use mathlib.Core.List.{List}
 use Prim.Native.Nat.{ℕ, zero, suc, _+_, _-_, _*_, _/_, _%_, _<_, _≤_}
 use native.Mathlib.Omega.{arith}
@@ -11,11 +11,10 @@ use Rattle.types.specs.declared.Limits.{Limits}
 use Rattle.numbers.specs.Extended.{up, down}
 use Rattle.numbers.specs.Words.{word as word-of}
 use Rattle.numbers.proofs.Words.{cases}
-use Rattle.meaning.specs.Meaning.{atom}
 use Rattle.meaning.specs.Merge.{Rule}
 use Rattle.meaning.specs.Computed.{extreme}
 use Rattle.book.specs.Rows.{Row, trail}
-use Rattle.area.specs.Layout.{word, literal-at, row-at, place-at, rows-from, record-at, pending-at, least-at, greatest-at, before-at, written-at, entry-at, rule-at, entries-before}
+use Rattle.area.specs.Layout.{word, literal-at, place-at, rows-from, record-at, pending-at, before-at, written-at, entry-at, rule-at, entries-before}
 use Rattle.area.specs.Whole.{Reasoned}
 use Rattle.trail_check.specs.Trail.{TrailOk}
 use Rattle.trail_check.proofs.Rows.{atom-of, atom-low}
