@@ -48,14 +48,14 @@ low-scanned k n u limit e v (w ∷ l ∷ rest) g =
 
 -- ---- a kind of the code for each
 
-coded : m.Kind → Kind
+pub coded : m.Kind → Kind
 coded m.sum = Sum
 coded m.product = Product
 coded m.count = Count
 coded m.maximum = Max
 coded m.minimum = Min
 
-meant-coded : (k : m.Kind) → meant (coded k) ≡ k
+pub meant-coded : (k : m.Kind) → meant (coded k) ≡ k
 unfolding coded
 meant-coded m.sum = refl
 meant-coded m.product = refl

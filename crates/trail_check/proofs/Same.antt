@@ -13,7 +13,7 @@ use Rattle.area.specs.Layout.{word, value-at, literal-at, mark-at, row-at, plac
 use Rattle.trail_check.specs.Trail.{TrailOk}
 use Rattle.trail_check.proofs.Shown.{literals}
 
-rows-same : (w w′ : List ℕ) (n k : ℕ) → rows-from w n k ≡ rows-from w′ n k → (i : ℕ) → i < k → row-at w n i ≡ row-at w′ n i
+pub rows-same : (w w′ : List ℕ) (n k : ℕ) → rows-from w n k ≡ rows-from w′ n k → (i : ℕ) → i < k → row-at w n i ≡ row-at w′ n i
 unfolding rows-from
 rows-same w w′ n zero e i l = let b : ⊥ = omega arith in absurd b
 rows-same w w′ n (suc k) e i l =
@@ -35,7 +35,7 @@ two-steps x = omega arith
 by-two : (x y : ℕ) → x % 65536 ≡ y % 65536 → x / 65536 ≡ y / 65536 → x ≡ y
 by-two x y e f = omega arith
 
-mark-same : (x y : ℕ) → x % 65536 ≡ y % 65536 → x / 65536 % 65536 ≡ y / 65536 % 65536 → x / 4294967296 ≡ y / 4294967296 → x ≡ y
+pub mark-same : (x y : ℕ) → x % 65536 ≡ y % 65536 → x / 65536 % 65536 ≡ y / 65536 % 65536 → x / 4294967296 ≡ y / 4294967296 → x ≡ y
 mark-same x y e f g = by-two x y e (by-two (x / 65536) (y / 65536) f (two-steps x ∙ g ∙ sym (two-steps y)))
 
 module _ {w w′ : List ℕ} {n len level level′ : ℕ} (ok : TrailOk w n len level) (ok′ : TrailOk w′ n len level′)
