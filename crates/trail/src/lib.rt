@@ -1,0 +1,1 @@
+// Steps of a caller on the trail: give, open, take back.
