@@ -1,6 +1,6 @@
 -- No fold over a whole sentence wraps, whatever the values: each contribution is the weight or the empty value, so that a sum moves by no
 -- more than the sizes of all its weights together, and a product never passes the product of all its weights. Assumes nothing.
-use mathlib.Core.Path.{_≡_, refl, sym, _∙_, ap, subst}
+use mathlib.Core.Path.{_≡_, refl, sym, subst}
 use mathlib.Core.Bool.{Bool, true, false, cond}
 use mathlib.Core.Logic.{_⊎_, inl, inr, ⊎-elim}
 use mathlib.Core.List.{List, [], _∷_}
@@ -14,7 +14,7 @@ use Rattle.sentence.specs.declared.Kind.the-variants.{Sum, Product, Coun
 use Rattle.sentence.specs.Words.{empty-word, combined, furthest-word, reach-word, contributions}
 use Rattle.sentence.specs.Room.{Steps, Room}
 use Rattle.sentence.proofs.Values.{sides}
-use Rattle.sentence.proofs.Reaches.{Proper, Legal}
+use Rattle.sentence.proofs.Contributions.{Proper, Legal}
 
 -- how far a word is from the word of 0
 abbrev pub far : ℕ → ℕ

@@ -9,7 +9,7 @@ use native.Mathlib.Omega.{arith}
 use lib.IntN.{ℤ}
 use lib.Dec.{leb}
 use borrow.Author.Tests.{le-leb, lt-leb}
-use Rattle.numbers.specs.Extended.{at, leE}
+use Rattle.numbers.specs.Extended.{leE}
 use Rattle.numbers.specs.Words.{top, unbias, unword}
 use Rattle.numbers.proofs.Words.{cases, unword-at, word-leb}
 use Rattle.meaning.specs.Meaning.{Side, comparison}
@@ -21,10 +21,10 @@ use Rattle.area.specs.Layout.{constant-of, entries-of}
 use Rattle.area.specs.Whole.{Once}
 use Rattle.sentence.specs.declared.Kind.{Kind}
 use Rattle.sentence.specs.declared.Kind.the-variants.{Sum, Product, Count, Max, Min}
-use Rattle.sentence.specs.Words.{meant, start-word, contributions, extreme-word, limit-word, upwards, keeps}
-use Rattle.sentence.specs.Room.{Room, Rooms}
+use Rattle.sentence.specs.Words.{meant, start-word, extreme-word, limit-word, upwards, keeps}
+use Rattle.sentence.specs.Room.{Rooms}
 use Rattle.sentence.proofs.Values.{direction, In, in-top, unword-empty}
-use Rattle.sentence.proofs.Reaches.{Legal, ShowsIn, folded-means, folded-in}
+use Rattle.sentence.proofs.Contributions.{Legal, ShowsIn, folded-means, folded-in}
 
 abbrev pub sided : Bool → Side
 sided true = m.upper

@@ -1,16 +1,16 @@
 -- What a sentence with a fixed head says first. It conflicts where the comparison does not have the head's truth at the extreme towards
 -- it. Otherwise an open entry's wanted literal leaves the extreme as it is, so that only its opposite can be refuted: by the entry's
 -- contribution replaced, which cannot be where the other extreme or the second best keeps the truth. Assumes nothing.
-use mathlib.Core.Path.{_≡_, refl, sym, _∙_, ap, subst}
+use mathlib.Core.Path.{_≡_, refl, sym, _∙_, ap}
 use mathlib.Core.Bool.{Bool, true, false, not, cond, _&&_, true≢false}
-use mathlib.Core.Logic.{_⊎_, inl, inr}
+use mathlib.Core.Logic.{inl, inr}
 use mathlib.Core.List.{List, [], _∷_}
 use Prim.Native.Nat.{ℕ, _+_, _/_, _%_, _≤_}
 use native.Mathlib.Omega.{arith}
 use native.Mathlib.Decide.{ℕ-discrete}
 use lib.IntN.{ℤ, pos, negℤ, negℤ-negℤ}
 use lib.Dec.{eqb}
-use borrow.Author.Tests.{ne-eqb, eqb-true, eqb-false}
+use borrow.Author.Tests.{eqb-true}
 use Rattle.numbers.specs.Words.{top, literal-of}
 use Rattle.meaning.specs.Meaning.{atom}
 use Rattle.meaning.specs.Meaning as m
@@ -25,7 +25,7 @@ use Rattle.sentence.specs.declared.Said.{Said}
 use Rattle.sentence.specs.declared.Said.the-variants.{Silent, Conflict, Forced}
 use Rattle.sentence.specs.Sentence.{standing-word, said-of}
 use Rattle.sentence.specs.Words.{empty-word, best-kind, start-word, furthest-word, nearest-word, contributions, folded, extreme-word, second-best, second-word, limit-word, upwards, keeps, turns-word, opposite-word, wanted-word, scanned, leaves-second, entries-say, body-says}
-use Rattle.sentence.proofs.Reaches.{literal-place, ShowsIn}
+use Rattle.sentence.proofs.Contributions.{literal-place, ShowsIn}
 use Rattle.sentence.proofs.Swaps.{Swapped, same-swap}
 use Rattle.sentence.proofs.Turns.{turned-loses, second-silent}
 use Rattle.sentence.proofs.Ranges.{Agreeing, range-keeps}

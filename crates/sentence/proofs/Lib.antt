@@ -1,6 +1,6 @@
 pub mod Loops
 pub mod Values
-pub mod Reaches
+pub mod Contributions
 pub mod Swaps
 pub mod Seconds
 pub mod Turns

@@ -35,7 +35,7 @@ from-next area start count i h g =
 pub from-start : (area : List ℕ) (start count : ℕ) → words-from area start count 0 ≡ entry-words area start count
 from-start area start count = let e : start + 2 * 0 ≡ start = omega arith in ap (λ (m : ℕ). slice m (start + 2 * count) area) e
 
-pub from-end : (area : List ℕ) (start count i : ℕ) → i ≡ count → words-from area start count i ≡ []
+from-end : (area : List ℕ) (start count i : ℕ) → i ≡ count → words-from area start count i ≡ []
 from-end area start count i e = ap (λ (m : ℕ). slice (start + 2 * m) (start + 2 * count) area) e ∙ slice-empty (start + 2 * count) area
 
 -- ---- folds
@@ -52,11 +52,11 @@ module _ (k : Kind) (up : Bool) (v : ℕ → ℕ) (area : List ℕ) (start count
   abbrev pub next-in : ℕ → ℕ
   next-in i = reach-word up (empty-word k) (weight-in area start i) (literal-in area start i) (v (literal-in area start i / 2))
 
-  pub rest-next : (i : ℕ) → i < count → start + 2 * count ≤ length area → rest-from i ≡ next-in i ∷ rest-from (i + 1)
+  rest-next : (i : ℕ) → i < count → start + 2 * count ≤ length area → rest-from i ≡ next-in i ∷ rest-from (i + 1)
   unfolding contributions
   rest-next i h g = ap (contributions k up v) (from-next area start count i h g)
 
-  pub rest-end : (i : ℕ) → i ≡ count → rest-from i ≡ []
+  rest-end : (i : ℕ) → i ≡ count → rest-from i ≡ []
   unfolding contributions
   rest-end i e = ap (contributions k up v) (from-end area start count i e)
 

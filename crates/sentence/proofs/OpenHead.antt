@@ -20,7 +20,7 @@ use Rattle.sentence.specs.declared.Kind.{Kind}
 use Rattle.sentence.specs.declared.Said.the-variants.{Silent, Forced}
 use Rattle.sentence.specs.Sentence.{standing-word, said-of}
 use Rattle.sentence.specs.Words.{extreme-word, limit-word, upwards, keeps, head-says}
-use Rattle.sentence.proofs.Reaches.{ShowsIn}
+use Rattle.sentence.proofs.Contributions.{ShowsIn}
 use Rattle.sentence.proofs.Dues.{said-cond, and-false, passed-over, free-due}
 use Rattle.sentence.proofs.Comparisons.{sided, rule-words, Sound, kept-at}
 

@@ -2,9 +2,9 @@
 -- furthest, and the opposite one makes it the nearest. Assumes nothing.
 use mathlib.Core.Path.{_≡_, refl, sym, _∙_, ap, subst}
 use mathlib.Core.Bool.{Bool, true, false, cond}
-use mathlib.Core.Logic.{_⊎_, inl, inr, ⊎-elim}
+use mathlib.Core.Logic.{_⊎_, ⊎-elim}
 use mathlib.Core.List.{List, [], _∷_}
-use Prim.Native.Nat.{ℕ, _+_, _-_, _/_, _%_, _≤_, _<_}
+use Prim.Native.Nat.{ℕ, _+_, _-_, _/_, _%_, _≤_}
 use native.Mathlib.Omega.{arith}
 use lib.IntN.{ℤ, negℤ}
 use lib.Dec.{eqb}
@@ -21,7 +21,7 @@ use Rattle.sentence.specs.declared.Kind.{Kind}
 use Rattle.sentence.specs.Sentence.{standing-word}
 use Rattle.sentence.specs.Words.{empty-word, furthest-word, nearest-word, reach-word, contributions, opposite-word, wanted-word}
 use Rattle.sentence.proofs.Values.{sides}
-use Rattle.sentence.proofs.Reaches.{literal-place, Proper, Legal, ShowsIn}
+use Rattle.sentence.proofs.Contributions.{literal-place, Proper, Legal, ShowsIn}
 use Rattle.sentence.proofs.Swaps.{Swapped, here, there}
 
 -- ---- opposite literals
@@ -64,7 +64,7 @@ opposite-literal l h =
 unfoldable pub with-value : (ℕ → ℕ) → ℕ → ℕ → ℕ → ℕ
 with-value v a x b = cond (eqb a b) x (v b)
 
-pub value-same : (v : ℕ → ℕ) (a x b : ℕ) → b ≡ a → with-value v a x b ≡ x
+value-same : (v : ℕ → ℕ) (a x b : ℕ) → b ≡ a → with-value v a x b ≡ x
 unfolding with-value
 value-same v a x b e = rw (eq-eqb a b (sym e))
 

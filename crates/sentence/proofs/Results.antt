@@ -9,17 +9,16 @@ use lib.IntN.{ℤ}
 use lib.Dec.{eqb}
 use borrow.Author.Tests.{ne-eqb}
 use Rattle.meaning.specs.Meaning as m
-use Rattle.meaning.specs.Computed.{free, fixed, standing, says}
-use Rattle.area.specs.Layout.{word, tag-at, written-at, merged-at, entry-at, entry-words, value-at, kind-of, rule-at}
+use Rattle.meaning.specs.Computed.{free, fixed, says}
+use Rattle.area.specs.Layout.{word, tag-at, written-at, merged-at, entry-at, entry-words, value-at, kind-of}
 use Rattle.sentence.specs.declared.Kind.{Kind}
 use Rattle.sentence.specs.declared.Kind.the-variants.{Sum, Product, Count, Max, Min}
-use Rattle.sentence.specs.declared.Extremes.{Extremes}
 use Rattle.sentence.specs.declared.Said.{Said}
 use Rattle.sentence.specs.declared.Said.the-variants.{Silent, Conflict, Forced}
-use Rattle.sentence.specs.Sentence.{standing-word, Shows, Ready, ExtremesAre, SaidIs, said-of}
+use Rattle.sentence.specs.Sentence.{Shows, Ready, ExtremesAre, SaidIs, said-of}
 use Rattle.sentence.specs.Words.{meant, empty-word, extreme-word, second-word, limit-word, upwards, keeps, head-says, turns-word, wanted-word, scanned, leaves-second, entries-say, body-says}
 use Rattle.sentence.specs.Room.{Turnable}
-use Rattle.sentence.proofs.Reaches.{Legal}
+use Rattle.sentence.proofs.Contributions.{Legal}
 use Rattle.sentence.proofs.Puts.{wanted-is}
 use Rattle.sentence.proofs.Comparisons.{rule-words, Sound}
 use Rattle.sentence.proofs.OpenHead.{says-open}

@@ -12,7 +12,7 @@ use Rattle.numbers.proofs.Words.{cases}
 use Rattle.sentence.specs.Words.{best-kind, combined, furthest-word, nearest-word, folded, second-best}
 use Rattle.sentence.proofs.Swaps.{Swapped, here, there}
 
-pub combined-best : (u : Bool) (a b : ℕ) → combined (best-kind u) a b ≡ furthest-word u a b
+combined-best : (u : Bool) (a b : ℕ) → combined (best-kind u) a b ≡ furthest-word u a b
 combined-best true a b = refl
 combined-best false a b = refl
 

@@ -1,6 +1,6 @@
 -- Some trail shows the values of n atoms: the one that has, for each atom whose value is not 0, the literal that the value says.
 -- Assumes nothing.
-use mathlib.Core.Path.{_≡_, refl, sym, _∙_, ap, subst}
+use mathlib.Core.Path.{_≡_, refl, sym, _∙_, subst}
 use mathlib.Core.Bool.{Bool, true, false, cond}
 use mathlib.Core.List.{List, [], _∷_}
 use Prim.Native.Nat.{ℕ, zero, suc, _%_, _≤_, _<_}
@@ -11,7 +11,7 @@ use lib.Dec.{eqb}
 use Rattle.meaning.specs.Computed.{free, fixed, standing}
 use Rattle.meaning.proofs.Trails.{standing-same, standing-other}
 use Rattle.sentence.specs.Sentence.{standing-word}
-use Rattle.sentence.proofs.Reaches.{ShowsIn}
+use Rattle.sentence.proofs.Contributions.{ShowsIn}
 
 -- the literal of atom k + 1 that its value x says, if it is set and odd or even
 said-by : Bool → Bool → ℕ → List ℤ → List ℤ

@@ -1,17 +1,16 @@
 -- A sentence that is ready, in its stored words: they are sound words of its rule, its entries stand inside the area, and the words of
 -- its extremes are the folds. Assumes nothing.
-use mathlib.Core.Path.{_≡_, refl, sym, _∙_, ap, subst}
+use mathlib.Core.Path.{_≡_, sym, _∙_, ap, subst}
 use mathlib.Core.Bool.{Bool, true, false}
 use mathlib.Core.Logic.{⊎-elim}
 use mathlib.Core.List.{List, [], _∷_}
-use Prim.Native.Nat.{ℕ, zero, suc, _+_, _-_, _*_, _/_, _%_, _≤_, _<_}
+use Prim.Native.Nat.{ℕ, zero, suc, _+_, _*_, _/_, _%_, _≤_, _<_}
 use native.Mathlib.Omega.{arith}
 use lib.IntN.{ℤ}
 use lib.Dec.{eqb}
 use lib.ListN.{length}
 use lib.Seq.{length-slice}
-use Rattle.types.specs.declared.Limits.{Limits}
-use Rattle.numbers.specs.Words.{top, unbias, unword}
+use Rattle.numbers.specs.Words.{top, unbias}
 use Rattle.numbers.specs.Words.{word as word-of}
 use Rattle.numbers.proofs.Words.{parity, word-unword}
 use Rattle.meaning.specs.Meaning.{Side}
@@ -21,14 +20,13 @@ use Rattle.meaning.specs.Computed.{extreme}
 use Rattle.area.specs.Layout.{word, tag-at, written-at, merged-at, entry-at, entry-words, value-at, kind-of, side-of, constant-of, entries-of, rule-at}
 use Rattle.area.specs.Whole.{RuleWhole}
 use Rattle.sentence.specs.declared.Kind.{Kind}
-use Rattle.sentence.specs.declared.Kind.the-variants.{Sum, Product, Count, Max, Min}
 use Rattle.sentence.specs.declared.Extremes.{Extremes}
 use Rattle.sentence.specs.Sentence.{Shows, Ready, ExtremesAre}
 use Rattle.sentence.specs.Words.{meant, weight-in, literal-in, start-word, extreme-word, FoldsAre}
 use Rattle.sentence.specs.Room.{Entries, Rooms}
 use Rattle.sentence.proofs.Loops.{words-from, from-start, from-next}
 use Rattle.sentence.proofs.Values.{direction, in-top}
-use Rattle.sentence.proofs.Reaches.{Proper, Legal}
+use Rattle.sentence.proofs.Contributions.{Proper, Legal}
 use Rattle.sentence.proofs.Comparisons.{sided, rule-words, Sound, extreme-in, extreme-means}
 use Rattle.sentence.proofs.Whole.{near-far, sound-from}
 use Rattle.sentence.proofs.Shown.{some-trail}

@@ -1,16 +1,15 @@
 -- Turning an open entry of sound words does not wrap: the value with the entry turned is itself a fold that does not. Assumes nothing.
-use mathlib.Core.Path.{_≡_, refl, sym, _∙_, ap, subst}
+use mathlib.Core.Path.{_≡_, refl, _∙_}
 use mathlib.Core.Bool.{Bool, true, false, true≢false}
-use mathlib.Core.Logic.{⊎-elim}
 use mathlib.Core.List.{List, [], _∷_}
-use Prim.Native.Nat.{ℕ, _+_, _-_, _*_, _/_, _≤_, _<_}
+use Prim.Native.Nat.{ℕ, _+_, _/_, _≤_, _<_}
 use native.Mathlib.Omega.{arith}
 use Rattle.numbers.specs.Words.{half, top}
 use Rattle.sentence.specs.declared.Kind.{Kind}
 use Rattle.sentence.specs.declared.Kind.the-variants.{Sum, Product, Count, Max, Min}
-use Rattle.sentence.specs.Words.{empty-word, start-word, furthest-word, nearest-word, contributions, folded, extreme-word, scaled, opposite-word, wanted-word}
+use Rattle.sentence.specs.Words.{empty-word, start-word, furthest-word, nearest-word, folded, extreme-word, scaled, opposite-word, wanted-word}
 use Rattle.sentence.specs.Room.{Room, Turns, Turnable}
-use Rattle.sentence.proofs.Values.{sides, In, in-empty}
+use Rattle.sentence.proofs.Values.{In}
 use Rattle.sentence.proofs.Swaps.{Swapped, sum-swap}
 use Rattle.sentence.proofs.Turns.{product-turned}
 use Rattle.sentence.proofs.Puts.{opposite, put, Member, first, later, member-proper, put-swaps, wanted-is}

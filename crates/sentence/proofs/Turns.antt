@@ -3,7 +3,7 @@
 use mathlib.Core.Path.{_≡_, refl, sym, _∙_, ap}
 use mathlib.Core.Bool.{Bool, true, false, not, cond, true≢false}
 use mathlib.Core.List.{List}
-use mathlib.Core.Logic.{_⊎_, inl, inr, ⊎-elim}
+use mathlib.Core.Logic.{⊎-elim}
 use Prim.Native.Nat.{ℕ, _+_, _-_, _*_, _/_, _≤_, _<_, min, max}
 use native.Mathlib.Omega.{arith}
 use native.Mathlib.Nat.{mul-one, div-one}
@@ -96,10 +96,10 @@ module _ (limit : ℕ) (small : limit ≤ top) where
         same true = refl
         same false = refl
 
-    pub second-keeps : keeps u limit E ≡ true → keeps u limit S ≡ true → not (keeps u limit (folded (best-kind u) start ys)) ≡ false
+    second-keeps : keeps u limit E ≡ true → keeps u limit S ≡ true → not (keeps u limit (folded (best-kind u) start ys)) ≡ false
     second-keeps h k = ap (λ f. not (keeps u limit f)) left-is ∙ left-keeps u (eqb w E) E S h k
 
-    pub second-turns : keeps u limit E ≡ true → keeps u limit S ≡ false → not (keeps u limit (folded (best-kind u) start ys)) ≡ eqb w E
+    second-turns : keeps u limit E ≡ true → keeps u limit S ≡ false → not (keeps u limit (folded (best-kind u) start ys)) ≡ eqb w E
     second-turns h k = ap (λ f. not (keeps u limit f)) left-is ∙ left-turns u (eqb w E) E S h k
 
 -- ---- a maximum down and a minimum up: the weight comes in

@@ -1,6 +1,6 @@
 -- Words stand for values: the order of words is the values' order, and each kind's combination of words is the combination of the values,
 -- where it does not wrap. Assumes nothing.
-use mathlib.Core.Path.{_≡_, refl, sym, _∙_, ap, subst}
+use mathlib.Core.Path.{_≡_, sym, _∙_, ap, subst}
 use mathlib.Core.Bool.{Bool, true, false}
 use mathlib.Core.Logic.{_⊎_, inl, inr, ⊎-elim}
 use Prim.Native.Nat.{ℕ, _+_, _-_, _*_, _≤_, _<_}
@@ -8,7 +8,7 @@ use native.Mathlib.Omega.{arith}
 use native.Mathlib.Nat.{mul-pos}
 use lib.IntN.{_+ℤ_, _*ℤ_}
 use Rattle.numbers.specs.Extended.{Direction, up, down, at}
-use Rattle.numbers.specs.Words.{half, top, unbias, unword}
+use Rattle.numbers.specs.Words.{half, top, unword}
 use Rattle.numbers.proofs.Words.{cases, unbias-sum, unbias-product, unword-at, unword-word, unword-max, unword-min}
 use Rattle.meaning.specs.Meaning.{empty}
 use Rattle.meaning.specs.Computed.{both, combine, furthest}

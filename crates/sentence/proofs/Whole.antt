@@ -1,32 +1,30 @@
 -- A whole rule's words are sound: its weights and its constant are small enough for any fold. Of a sum, at most 4,096 weights of at most
 -- 4,096 × 10^9 each; of a product, at most 10^18 all together. Assumes nothing.
-use mathlib.Core.Path.{_≡_, refl, sym, _∙_, ap, subst}
-use mathlib.Core.Bool.{Bool, true, false}
-use mathlib.Core.Logic.{_⊎_, inl, inr, ⊎-elim}
+use mathlib.Core.Path.{_≡_, refl, _∙_, ap, subst}
+use mathlib.Core.Bool.{Bool}
+use mathlib.Core.Logic.{⊎-elim}
 use mathlib.Core.List.{List, [], _∷_}
-use Prim.Native.Nat.{ℕ, _+_, _-_, _*_, _/_, _%_, _≤_, _<_}
+use Prim.Native.Nat.{ℕ, _+_, _-_, _*_, _≤_, _<_}
 use native.Mathlib.Omega.{arith}
-use lib.IntN.{ℤ, pos, natAbs, _*ℤ_}
+use lib.IntN.{pos, natAbs, _*ℤ_}
 use lib.Signed.{leZ}
 use lib.Dec.{T, leb→le}
 use lib.ListN.{length}
 use Rattle.numbers.specs.Words.{half, top, unbias, literal-of}
-use Rattle.numbers.specs.Integers.{positive, negative}
 use Rattle.numbers.proofs.Integers.{ints, size-parts}
 use Rattle.numbers.proofs.Words.{cases, unbias-parts, unbias-natural, literal-none}
-use Rattle.meaning.specs.Meaning.{atom, Entry, multiplied, Each}
+use Rattle.meaning.specs.Meaning.{atom, multiplied, Each}
 use Rattle.meaning.specs.Meaning as m
-use Rattle.meaning.specs.Merge.{Rule}
 use Rattle.meaning.proofs.Gather.{each-map}
 use Rattle.types.specs.declared.Limits.{Limits}
 use Rattle.types.specs.Limits.{Fitting}
-use Rattle.area.specs.Layout.{entries-of, constant-of}
+use Rattle.area.specs.Layout.{entries-of}
 use Rattle.area.specs.Whole.{Near, WeightWhole, EntryWhole, weights-of, RuleWhole}
 use Rattle.sentence.specs.declared.Kind.{Kind}
 use Rattle.sentence.specs.declared.Kind.the-variants.{Sum, Product, Count, Max, Min}
 use Rattle.sentence.specs.Words.{meant, start-word}
 use Rattle.sentence.proofs.Values.{In, in-empty}
-use Rattle.sentence.proofs.Reaches.{literal-place, entry-of, Proper, Legal}
+use Rattle.sentence.proofs.Contributions.{literal-place, entry-of, Legal}
 use Rattle.sentence.proofs.Bounded.{far, spread, factors, Bounded, bounded-room}
 use Rattle.sentence.proofs.Comparisons.{rule-words, Sound}
 
@@ -58,7 +56,7 @@ weight-range Min written w l s h = let f : far w ≤ 1000000000 = near-far w 100
 -- ---- all the entries
 
 module _ (k : Kind) (n head written : ℕ) (s : written ≤ 4096) where
-  pub legal-from : (words : List ℕ) → Each (EntryWhole n head (meant k) written) (entries-of words) → Legal k n words
+  legal-from : (words : List ℕ) → Each (EntryWhole n head (meant k) written) (entries-of words) → Legal k n words
   unfolding Legal entries-of
   legal-from [] h = tt
   legal-from (w ∷ []) h = tt

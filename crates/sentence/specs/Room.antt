@@ -1,10 +1,10 @@
 -- What the loops over a sentence's entries ask: the entries and the values stand inside the area, and nothing wraps.
 -- Assumes nothing.
 use mathlib.Core.Path.{_≡_}
-use mathlib.Core.Bool.{Bool, true, false}
+use mathlib.Core.Bool.{Bool, false}
 use mathlib.Core.List.{List, [], _∷_}
 use Prim.Native.Nat.{ℕ, _+_, _-_, _*_, _/_, _≤_, _<_}
-use lib.ListN.{length, getD}
+use lib.ListN.{length}
 use Rattle.numbers.specs.Words.{half, top}
 use Rattle.sentence.specs.declared.Kind.{Kind}
 use Rattle.sentence.specs.declared.Kind.the-variants.{Sum, Product, Count, Max, Min}
@@ -26,7 +26,7 @@ Steps Count a b = (half < a + b) × (a + b < top + half)
 Steps Max a b = Unit {0}
 Steps Min a b = Unit {0}
 
--- no step of a fold does
+-- no step of a fold wraps
 unfoldable pub Room : Kind → ℕ → List ℕ → Type 0
 Room k acc [] = Unit {0}
 Room k acc (x ∷ xs) = Steps k acc x × Room k (combined k acc x) xs
@@ -35,7 +35,7 @@ Room k acc (x ∷ xs) = Steps k acc x × Room k (combined k acc x) xs
 abbrev pub Rooms : Kind → ℕ → (ℕ → ℕ) → List ℕ → Type 0
 Rooms k acc v words = (up : Bool) → Room k acc (contributions k up v words)
 
--- turning an entry of weight w does not wrap an entry of weight w
+-- turning an entry of weight w does not wrap
 abbrev pub Turns : Kind → Bool → ℕ → ℕ → Type 0
 Turns Sum up e w = (furthest-word up w half ≤ e + nearest-word up w half) × (e + nearest-word up w half < top + top)
 Turns Product up e w = (half < w) × (half ≤ e) × (e < top) × ((up ≡ false) → (e - half) * (w - half) < half)

@@ -68,6 +68,11 @@ nearest-word false a b = max a b
 abbrev pub reach-word : Bool → ℕ → ℕ → ℕ → ℕ → ℕ
 reach-word up empty w l v = cond (eqb v 0) (furthest-word up w empty) (cond (eqb (v % 2) (l % 2)) empty w)
 
+-- in both directions
+pub record ReachesAre (empty w l v : ℕ) (r : Extremes) : Type 0 where
+  pub least-is : r .least ≡ reach-word false empty w l v
+  pub greatest-is : r .greatest ≡ reach-word true empty w l v
+
 -- of each entry, whose weight and literal stand one behind the other
 unfoldable pub contributions : Kind → Bool → (ℕ → ℕ) → List ℕ → List ℕ
 contributions k up v [] = []
@@ -80,6 +85,11 @@ folded k acc (x ∷ xs) = folded k (combined k acc x) xs
 
 abbrev pub extreme-word : Kind → Bool → (ℕ → ℕ) → ℕ → List ℕ → ℕ
 extreme-word k up v c words = folded k (start-word k c) (contributions k up v words)
+
+-- one step of both folds
+pub record StepIs (k : Kind) (least greatest low high : ℕ) (r : Extremes) : Type 0 where
+  pub least-is : r .least ≡ combined k least low
+  pub greatest-is : r .greatest ≡ combined k greatest high
 
 -- both folds from `first` on
 pub record FoldsAre (k : Kind) (first : ℕ) (v : ℕ → ℕ) (words : List ℕ) (r : Extremes) : Type 0 where
@@ -101,7 +111,7 @@ second-word up v words = second-best up (empty-word (best-kind up)) (empty-word 
 
 -- ---- the comparison
 
--- of the two words next to each other at the bound, the one that an upward value has to reach
+-- the first word on the comparison's far side: from it on `bound ≤ value` holds, or `value ≤ bound` fails
 abbrev pub limit-word : Bool → ℕ → ℕ
 limit-word true bound = bound + 1
 limit-word false bound = bound

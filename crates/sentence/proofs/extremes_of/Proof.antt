@@ -1,96 +1,71 @@
-use mathlib.Core.Path.{_≡_, sym, ap, _∙_, subst}
-use Prim.Native.Nat.{ℕ, _+_, _%_}
-use Rattle.area.specs.Layout.{word, entry-at, merged-at, entry-words, value-at}
-use Rattle.sentence.specs.Words.{start-word, FoldsAre}
+-- `sentence::extremes_of` meets its contract: the words that it reads are those of the sentence's rule, whose folds do not wrap and stand for
+-- its extremes. Assumes nothing.
+use mathlib.Core.Path.{sym, subst}
+use borrow.Author.Needs.{needs}
+use Rattle.area.specs.Layout.{entry-at, merged-at, entry-words, value-at}
+use Rattle.sentence.specs.Words.{FoldsAre}
 use Rattle.sentence.specs.Room.{Rooms}
 use Rattle.sentence.proofs.Stored.{entries-at, rooms-at, folds-extremes}
-use native.Mathlib.Omega.{arith}
-use borrow.Author.Needs.{needs}
 use Rattle.sentence.proofs.extremes_of.Statement.{statement}
 use Rattle.sentence.proofs.extremes_of.Tie as tie
-use Rattle.sentence.proofs.extremes_of.Reads as reads
-use Rattle.sentence.proofs.extremes_of.Lts as lts
-use Rattle.sentence.proofs.folds.Reads as folds-reads
-use Rattle.sentence.proofs.kind_of.Reads as kind-of-reads
-use Rattle.sentence.proofs.start_of.Reads as start-of-reads
 
--- src/lib.rt:158:29
 add-kind-of : tie.Need-add-kind-of
 add-kind-of c = search needs
 
--- src/lib.rt:158:24
 mul-kind-of : tie.Need-mul-kind-of
 mul-kind-of c = search needs
 
--- src/lib.rt:158:24
 shared-slice-read-kind-of : tie.Need-shared-slice-read-kind-of
 shared-slice-read-kind-of c = search needs
 
--- src/lib.rt:158:9
 kind-of-requires : tie.Need-kind-of-requires
 kind-of-requires c κs = search needs
 
--- src/lib.rt:159:37
 add-start-of : tie.Need-add-start-of
 add-start-of c = search needs
 
--- src/lib.rt:159:32
 mul-start-of : tie.Need-mul-start-of
 mul-start-of c = search needs
 
--- src/lib.rt:159:32
 shared-slice-read-start-of : tie.Need-shared-slice-read-start-of
 shared-slice-read-start-of c = search needs
 
--- src/lib.rt:159:9
 start-of-requires : tie.Need-start-of-requires
 start-of-requires c κs = search needs
 
--- src/lib.rt:160:17
 mul-start : tie.Need-mul-start
 mul-start c = search needs
 
--- src/lib.rt:160:25
 mul-start-2 : tie.Need-mul-start-2
 mul-start-2 c = search needs
 
--- src/lib.rt:160:17
 add-start : tie.Need-add-start
 add-start c = search needs
 
--- src/lib.rt:160:46
 add-start-2 : tie.Need-add-start-2
 add-start-2 c = search needs
 
--- src/lib.rt:160:41
 mul-start-3 : tie.Need-mul-start-3
 mul-start-3 c = search needs
 
--- src/lib.rt:160:41
 shared-slice-read-start : tie.Need-shared-slice-read-start
 shared-slice-read-start c = search needs
 
--- src/lib.rt:160:37
 mul-start-4 : tie.Need-mul-start-4
 mul-start-4 c = search needs
 
--- src/lib.rt:160:17
 add-start-3 : tie.Need-add-start-3
 add-start-3 c = search needs
 
--- src/lib.rt:161:24
 add-merged : tie.Need-add-merged
 add-merged c = search needs
 
--- src/lib.rt:161:19
 mul-merged : tie.Need-mul-merged
 mul-merged c = search needs
 
--- src/lib.rt:161:19
 shared-slice-read-merged : tie.Need-shared-slice-read-merged
 shared-slice-read-merged c = search needs
 
--- src/lib.rt:162:5
 folds-requires : tie.Need-folds-requires
 folds-requires c κs =
     let a = c .before .before .before .before .before .before .before .args in
@@ -103,7 +78,6 @@ folds-requires c κs =
           (rooms-at w (a .n) (a .count) (a .base) (c .before .before .before .before .before .before .before .pre) k e),
     )
 
--- src/lib.rt:154:1
 returns : tie.Need-returns
 returns c =
     let a = c .before .before .before .before .before .before .before .before .args in

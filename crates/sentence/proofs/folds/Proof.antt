@@ -1,20 +1,15 @@
-use borrow.Author.Needs.{needs}
-use native.Mathlib.Omega.{arith}
-use mathlib.Core.Path.{_≡_, refl, sym, ap, _∙_, subst}
+-- `sentence::folds` meets its contract. The loop's invariant: folding the contributions from entry i on, from `least` and from `greatest`,
+-- comes to the whole folds, and does not wrap. Assumes nothing.
+use mathlib.Core.Path.{_≡_, ap, _∙_}
 use mathlib.Core.Bool.{true, false}
-use Prim.Native.Nat.{ℕ, _+_, _*_, _-_, _/_, _≤_, _<_}
+use Prim.Native.Nat.{_-_, _/_, _≤_, _<_}
 use native.Mathlib.Omega.{arith}
+use borrow.Author.Needs.{needs}
 use Rattle.area.specs.Layout.{value-at, entry-words}
 use Rattle.sentence.specs.Words.{empty-word, reach-word, contributions, folded, combined, weight-in, literal-in}
-use Rattle.sentence.specs.Room.{Steps}
 use Rattle.sentence.proofs.Loops.{Folding, rest-from, next-in, folding-starts, folding-steps, folding-next, folding-ends}
 use Rattle.sentence.proofs.folds.Statement.{statement}
 use Rattle.sentence.proofs.folds.Tie as tie
-use Rattle.sentence.proofs.folds.Reads as reads
-use Rattle.sentence.proofs.folds.Lts as lts
-use Rattle.sentence.proofs.combine.Reads as combine-reads
-use Rattle.sentence.proofs.empty.Reads as empty-reads
-use Rattle.sentence.proofs.reach.Reads as reach-reads
 
 abbrev Inv-loop : tie.InvT-loop
 Inv-loop area kind first start count n none least₀ greatest₀ i₀ least greatest i =
@@ -25,11 +20,9 @@ Inv-loop area kind first start count n none least₀ greatest₀ i₀ least grea
 abbrev μ-loop : tie.MeasureT-loop
 μ-loop area kind first start count n none least₀ greatest₀ i₀ least greatest i = count - i
 
--- src/lib.rt:138:9
 empty-requires : tie.Need-empty-requires Inv-loop μ-loop
 empty-requires c κs = search needs
 
--- src/lib.rt:142:5
 loop-holds : tie.Need-loop-holds Inv-loop μ-loop
 loop-holds c =
     let a = c .before .before .args in
@@ -41,57 +34,44 @@ loop-holds c =
       c .empty .ensures,
     )
 
--- src/lib.rt:143:26
 mul-at : tie.Need-mul-at Inv-loop μ-loop
 mul-at c = search needs
 
--- src/lib.rt:143:18
 add-at : tie.Need-add-at Inv-loop μ-loop
 add-at c = search needs
 
--- src/lib.rt:144:17
 mul-w : tie.Need-mul-w Inv-loop μ-loop
 mul-w c = search needs
 
--- src/lib.rt:144:17
 shared-slice-read-w : tie.Need-shared-slice-read-w Inv-loop μ-loop
 shared-slice-read-w c = search needs
 
--- src/lib.rt:145:22
 add-l : tie.Need-add-l Inv-loop μ-loop
 add-l c = search needs
 
--- src/lib.rt:145:17
 mul-l : tie.Need-mul-l Inv-loop μ-loop
 mul-l c = search needs
 
--- src/lib.rt:145:17
 shared-slice-read-l : tie.Need-shared-slice-read-l Inv-loop μ-loop
 shared-slice-read-l c = search needs
 
--- src/lib.rt:146:22
 sub-v : tie.Need-sub-v Inv-loop μ-loop
 sub-v c = search needs
 
--- src/lib.rt:146:22
 add-v : tie.Need-add-v Inv-loop μ-loop
 add-v c = omega (arith, c .before .before .before .before .before .before .pre .0 .atom-high (c .before .before .before .loop .i) (c .before .before .loop-test .taken))
 
--- src/lib.rt:146:17
 mul-v : tie.Need-mul-v Inv-loop μ-loop
 mul-v c = omega (arith, c .before .before .before .before .before .before .pre .0 .atom-high (c .before .before .before .loop .i) (c .before .before .loop-test .taken))
 
--- src/lib.rt:146:17
 shared-slice-read-v : tie.Need-shared-slice-read-v Inv-loop μ-loop
 shared-slice-read-v c = omega (arith, c .before .before .before .before .before .before .before .pre .0 .literal (c .before .before .before .before .loop .i) (c .before .before .before .loop-test .taken), c .before .before .before .before .before .before .before .pre .0 .atom-high (c .before .before .before .before .loop .i) (c .before .before .before .loop-test .taken))
 
--- src/lib.rt:147:38
-reach-requires : tie.Need-reach-requires Inv-loop μ-loop
-reach-requires c κs = search needs
+reaches-requires : tie.Need-reaches-requires Inv-loop μ-loop
+reaches-requires c κs = search needs
 
--- src/lib.rt:147:9
-combine-requires : tie.Need-combine-requires Inv-loop μ-loop
-combine-requires c κs =
+step-requires : tie.Need-step-requires Inv-loop μ-loop
+step-requires c κs =
     let a = c .before .before .before .before .before .before .before .before .args in
     let area = a .area .now in
     let v = value-at area (a .n) in
@@ -99,65 +79,46 @@ combine-requires c κs =
     let j = c .before .before .before .before .before .loop .inv in
     let h : i < a .count = c .before .before .before .before .loop-test .taken in
     let g = c .before .before .before .before .before .before .before .before .pre .0 .inside in
-    let x : c .reach .result ≡ next-in (a .kind) false v area (a .start) (a .count) i = c .reach .ensures ∙ ap (λ e. reach-word false e (weight-in area (a .start) i) (literal-in area (a .start) i) (v (literal-in area (a .start) i / 2))) (j .3) in
-    rw x (folding-steps (a .kind) false v area (a .start) (a .count) (c .before .before .before .before .before .loop .least) (folded (a .kind) (a .first) (contributions (a .kind) false v (entry-words area (a .start) (a .count)))) i h g (j .1))
+    let x : c .reaches .result .least ≡ next-in (a .kind) false v area (a .start) (a .count) i = c .reaches .ensures .least-is ∙ ap (λ e. reach-word false e (weight-in area (a .start) i) (literal-in area (a .start) i) (v (literal-in area (a .start) i / 2))) (j .3) in
+    let y : c .reaches .result .greatest ≡ next-in (a .kind) true v area (a .start) (a .count) i = c .reaches .ensures .greatest-is ∙ ap (λ e. reach-word true e (weight-in area (a .start) i) (literal-in area (a .start) i) (v (literal-in area (a .start) i / 2))) (j .3) in (
+      rw x (folding-steps (a .kind) false v area (a .start) (a .count) (c .before .before .before .before .before .loop .least) (folded (a .kind) (a .first) (contributions (a .kind) false v (entry-words area (a .start) (a .count)))) i h g (j .1)),
+      rw y (folding-steps (a .kind) true v area (a .start) (a .count) (c .before .before .before .before .before .loop .greatest) (folded (a .kind) (a .first) (contributions (a .kind) true v (entry-words area (a .start) (a .count)))) i h g (j .2)),
+    )
 
--- src/lib.rt:148:44
-reach-requires-2 : tie.Need-reach-requires-2 Inv-loop μ-loop
-reach-requires-2 c κs = search needs
-
--- src/lib.rt:148:9
-combine-requires-2 : tie.Need-combine-requires-2 Inv-loop μ-loop
-combine-requires-2 c κs =
-    let a = c .before .before .before .before .before .before .before .before .before .before .args in
-    let area = a .area .now in
-    let v = value-at area (a .n) in
-    let i = c .before .before .before .before .before .before .before .loop .i in
-    let j = c .before .before .before .before .before .before .before .loop .inv in
-    let h : i < a .count = c .before .before .before .before .before .before .loop-test .taken in
-    let g = c .before .before .before .before .before .before .before .before .before .before .pre .0 .inside in
-    let x : c .reach2 .result ≡ next-in (a .kind) true v area (a .start) (a .count) i = c .reach2 .ensures ∙ ap (λ e. reach-word true e (weight-in area (a .start) i) (literal-in area (a .start) i) (v (literal-in area (a .start) i / 2))) (j .3) in
-    rw x (folding-steps (a .kind) true v area (a .start) (a .count) (c .before .before .before .before .before .before .before .loop .greatest) (folded (a .kind) (a .first) (contributions (a .kind) true v (entry-words area (a .start) (a .count)))) i h g (j .2))
-
--- src/lib.rt:149:9
 add-i : tie.Need-add-i Inv-loop μ-loop
 add-i c = search needs
 
--- src/lib.rt:142:5
 loop-less : tie.Need-loop-less Inv-loop μ-loop
 loop-less c = search needs
 
--- src/lib.rt:142:5
 loop-again : tie.Need-loop-again Inv-loop μ-loop
 loop-again c =
-    let a = c .before .before .before .before .before .before .before .before .before .before .before .args in
+    let a = c .before .before .before .before .before .before .before .before .before .args in
     let area = a .area .now in
     let v = value-at area (a .n) in
-    let i = c .before .before .before .before .before .before .before .before .loop .i in
-    let j = c .before .before .before .before .before .before .before .before .loop .inv in
-    let h : i < a .count = c .before .before .before .before .before .before .before .loop-test .taken in
-    let g = c .before .before .before .before .before .before .before .before .before .before .before .pre .0 .inside in
-    let x : c .before .before .before .reach .result ≡ next-in (a .kind) false v area (a .start) (a .count) i = c .before .before .before .reach .ensures ∙ ap (λ e. reach-word false e (weight-in area (a .start) i) (literal-in area (a .start) i) (v (literal-in area (a .start) i / 2))) (j .3) in
-    let y : c .before .reach2 .result ≡ next-in (a .kind) true v area (a .start) (a .count) i = c .before .reach2 .ensures ∙ ap (λ e. reach-word true e (weight-in area (a .start) i) (literal-in area (a .start) i) (v (literal-in area (a .start) i / 2))) (j .3) in (
+    let i = c .before .before .before .before .before .before .loop .i in
+    let j = c .before .before .before .before .before .before .loop .inv in
+    let h : i < a .count = c .before .before .before .before .before .loop-test .taken in
+    let g = c .before .before .before .before .before .before .before .before .before .pre .0 .inside in
+    let x : c .before .reaches .result .least ≡ next-in (a .kind) false v area (a .start) (a .count) i = c .before .reaches .ensures .least-is ∙ ap (λ e. reach-word false e (weight-in area (a .start) i) (literal-in area (a .start) i) (v (literal-in area (a .start) i / 2))) (j .3) in
+    let y : c .before .reaches .result .greatest ≡ next-in (a .kind) true v area (a .start) (a .count) i = c .before .reaches .ensures .greatest-is ∙ ap (λ e. reach-word true e (weight-in area (a .start) i) (literal-in area (a .start) i) (v (literal-in area (a .start) i / 2))) (j .3) in (
       omega arith,
-      rw (c .before .before .combine .ensures ∙ ap (combined (a .kind) (c .before .before .before .before .before .before .before .before .loop .least)) x)
-          (folding-next (a .kind) false v area (a .start) (a .count) (c .before .before .before .before .before .before .before .before .loop .least) (folded (a .kind) (a .first) (contributions (a .kind) false v (entry-words area (a .start) (a .count)))) i h g (j .1)),
-      rw (c .combine2 .ensures ∙ ap (combined (a .kind) (c .before .before .before .before .before .before .before .before .loop .greatest)) y)
-          (folding-next (a .kind) true v area (a .start) (a .count) (c .before .before .before .before .before .before .before .before .loop .greatest) (folded (a .kind) (a .first) (contributions (a .kind) true v (entry-words area (a .start) (a .count)))) i h g (j .2)),
+      rw (c .step .ensures .least-is ∙ ap (combined (a .kind) (c .before .before .before .before .before .before .loop .least)) x)
+          (folding-next (a .kind) false v area (a .start) (a .count) (c .before .before .before .before .before .before .loop .least) (folded (a .kind) (a .first) (contributions (a .kind) false v (entry-words area (a .start) (a .count)))) i h g (j .1)),
+      rw (c .step .ensures .greatest-is ∙ ap (combined (a .kind) (c .before .before .before .before .before .before .loop .greatest)) y)
+          (folding-next (a .kind) true v area (a .start) (a .count) (c .before .before .before .before .before .before .loop .greatest) (folded (a .kind) (a .first) (contributions (a .kind) true v (entry-words area (a .start) (a .count)))) i h g (j .2)),
       j .3,
     )
 
--- src/lib.rt:133:1
 returns : tie.Need-returns Inv-loop μ-loop
 returns c =
     let a = c .before .before .before .before .args in
     let area = a .area .now in
     let v = value-at area (a .n) in
     let e : c .before .loop .i ≡ a .count = omega arith in
-    let words = entry-words area (a .start) (a .count) in
     record {
-      least-is = folding-ends (a .kind) false v area (a .start) (a .count) (c .before .loop .least) (folded (a .kind) (a .first) (contributions (a .kind) false v words)) (c .before .loop .i) e (c .before .loop .inv .1);
-      greatest-is = folding-ends (a .kind) true v area (a .start) (a .count) (c .before .loop .greatest) (folded (a .kind) (a .first) (contributions (a .kind) true v words)) (c .before .loop .i) e (c .before .loop .inv .2);
+      least-is = folding-ends (a .kind) false v area (a .start) (a .count) (c .before .loop .least) (folded (a .kind) (a .first) (contributions (a .kind) false v (entry-words area (a .start) (a .count)))) (c .before .loop .i) e (c .before .loop .inv .1);
+      greatest-is = folding-ends (a .kind) true v area (a .start) (a .count) (c .before .loop .greatest) (folded (a .kind) (a .first) (contributions (a .kind) true v (entry-words area (a .start) (a .count)))) (c .before .loop .i) e (c .before .loop .inv .2);
     }
 
 pub folds-spec : {M : Type 1} → statement M
@@ -179,10 +140,8 @@ folds-spec =
     add-v
     mul-v
     shared-slice-read-v
-    reach-requires
-    combine-requires
-    reach-requires-2
-    combine-requires-2
+    reaches-requires
+    step-requires
     add-i
     loop-less
     loop-again

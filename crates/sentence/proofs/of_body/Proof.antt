@@ -1,24 +1,17 @@
+-- `sentence::of_body` meets its contract: it takes the tests in the definition's order. Assumes nothing.
 use mathlib.Core.Path.{_≡_, sym, ap, _∙_}
-use mathlib.Core.Bool.{Bool, true, false, not, cond, _&&_}
+use mathlib.Core.Bool.{true, false, _&&_}
 use mathlib.Core.Logic.{⊎-elim}
 use borrow.Author.Tests.{not-true, not-false}
-use Rattle.area.specs.Layout.{value-at, entry-words}
-use Rattle.sentence.specs.Words.{keeps, leaves-second, second-word, scanned}
 use borrow.Author.Needs.{needs}
+use Rattle.area.specs.Layout.{value-at, entry-words}
+use Rattle.sentence.specs.Words.{keeps, leaves-second, second-word}
 use Rattle.sentence.proofs.of_body.Statement.{statement}
 use Rattle.sentence.proofs.of_body.Tie as tie
-use Rattle.sentence.proofs.of_body.Reads as reads
-use Rattle.sentence.proofs.of_body.Lts as lts
-use Rattle.sentence.proofs.keep.Reads as keep-reads
-use Rattle.sentence.proofs.leaves_second.Reads as leaves-second-reads
-use Rattle.sentence.proofs.scan.Reads as scan-reads
-use Rattle.sentence.proofs.second.Reads as second-reads
 
--- src/lib.rt:280:9
 keep-requires : tie.Need-keep-requires
 keep-requires c κs = search needs
 
--- src/lib.rt:281:9
 returns : tie.Need-returns
 returns c =
     let a = c .before .before .before .args in
@@ -27,11 +20,9 @@ returns c =
     let lost : keeps (a .up) (a .limit) (a .e) ≡ false = sym (c .before .keep .ensures) ∙ not-true (c .before .keep .result) (c .if1 .taken) in
     rw lost
 
--- src/lib.rt:283:8
 keep-requires-2 : tie.Need-keep-requires-2
 keep-requires-2 c κs = search needs
 
--- src/lib.rt:284:9
 returns-2 : tie.Need-returns-2
 returns-2 c =
     let a = c .before .before .before .before .before .args in
@@ -41,19 +32,15 @@ returns-2 c =
     let within : keeps (a .up) (a .limit) (a .o) ≡ true = sym (c .before .keep2 .ensures) ∙ c .if2 .taken in
     rw (held, within)
 
--- src/lib.rt:286:8
 leaves-second-requires : tie.Need-leaves-second-requires
 leaves-second-requires c κs = search needs
 
--- src/lib.rt:287:28
 second-requires : tie.Need-second-requires
 second-requires c κs = search needs
 
--- src/lib.rt:287:12
 keep-requires-3 : tie.Need-keep-requires-3
 keep-requires-3 c κs = search needs
 
--- src/lib.rt:288:13
 returns-3 : tie.Need-returns-3
 returns-3 c =
     let a = c .before .before .before .before .before .before .before .before .before .before .args in
@@ -66,11 +53,9 @@ returns-3 c =
     ap (keeps (a .up) (a .limit)) (sym (c .before .before .second .ensures)) ∙ sym (c .before .keep3 .ensures) ∙ c .if4 .taken in
     rw (held, within, leaves, keeping)
 
--- src/lib.rt:291:5
 scan-requires : tie.Need-scan-requires
 scan-requires c κs = search needs
 
--- src/lib.rt:275:1
 returns-4 : tie.Need-returns-4
 returns-4 c =
     let a = c .before .before .before .before .before .before .before .before .args in

@@ -1,90 +1,68 @@
+-- `sentence::says` meets its contract: the extremes that it is given are the folds, so that each branch is one of the answers of
+-- Results.antt. Assumes nothing.
 use mathlib.Core.Path.{_≡_, refl, sym, ap, _∙_, subst}
-use mathlib.Core.Bool.{Bool, true, false, not}
+use mathlib.Core.Bool.{true, false, not}
 use mathlib.Core.Logic.{⊎-elim}
-use Prim.Native.Nat.{ℕ, _+_, _%_}
+use Prim.Native.Nat.{_+_, _%_}
+use native.Mathlib.Omega.{arith}
 use lib.Dec.{eqb}
+use borrow.Author.Needs.{needs}
 use Rattle.area.specs.Layout.{word, entry-at, merged-at, entry-words, value-at}
 use Rattle.sentence.specs.Sentence.{SaidIs}
 use Rattle.sentence.specs.Words.{limit-word, upwards, keeps, head-says, body-says}
-use Rattle.sentence.specs.Room.{Turnable}
 use Rattle.sentence.proofs.Stored.{upper-in, bound-high, entries-at}
 use Rattle.sentence.proofs.Results.{turnable-at, said-open, said-fixed}
-use native.Mathlib.Omega.{arith}
-use borrow.Author.Needs.{needs}
 use Rattle.sentence.proofs.says.Statement.{statement}
 use Rattle.sentence.proofs.says.Tie as tie
-use Rattle.sentence.proofs.says.Reads as reads
-use Rattle.sentence.proofs.says.Lts as lts
-use Rattle.sentence.proofs.keep.Reads as keep-reads
-use Rattle.sentence.proofs.kind_of.Reads as kind-of-reads
-use Rattle.sentence.proofs.of_body.Reads as of-body-reads
-use Rattle.sentence.proofs.of_head.Reads as of-head-reads
 
--- src/lib.rt:313:16
 mul-head : tie.Need-mul-head
 mul-head c = search needs
 
--- src/lib.rt:313:16
 shared-slice-read-head : tie.Need-shared-slice-read-head
 shared-slice-read-head c = search needs
 
--- src/lib.rt:314:20
 add-tag : tie.Need-add-tag
 add-tag c = search needs
 
--- src/lib.rt:314:15
 mul-tag : tie.Need-mul-tag
 mul-tag c = search needs
 
--- src/lib.rt:314:15
 shared-slice-read-tag : tie.Need-shared-slice-read-tag
 shared-slice-read-tag c = search needs
 
--- src/lib.rt:315:22
 add-bound : tie.Need-add-bound
 add-bound c = search needs
 
--- src/lib.rt:315:17
 mul-bound : tie.Need-mul-bound
 mul-bound c = search needs
 
--- src/lib.rt:315:17
 shared-slice-read-bound : tie.Need-shared-slice-read-bound
 shared-slice-read-bound c = search needs
 
--- src/lib.rt:317:28
 add-limit : tie.Need-add-limit
 add-limit c = omega (arith, bound-high (c .before .before .before .before .before .args .area .now) (c .before .before .before .before .before .args .n) (c .before .before .before .before .before .args .count) (c .before .before .before .before .before .args .base) (c .before .before .before .before .before .pre .0))
 
--- src/lib.rt:318:18
 sub-v : tie.Need-sub-v
 sub-v c = search needs
 
--- src/lib.rt:318:18
 add-v : tie.Need-add-v
 add-v c = search needs
 
--- src/lib.rt:318:13
 mul-v : tie.Need-mul-v
 mul-v c = search needs
 
--- src/lib.rt:318:13
 shared-slice-read-v : tie.Need-shared-slice-read-v
 shared-slice-read-v c = search needs
 
--- src/lib.rt:321:29
 keep-requires : tie.Need-keep-requires
 keep-requires c κs = search needs
 
--- src/lib.rt:321:59
 keep-requires-2 : tie.Need-keep-requires-2
 keep-requires-2 c κs = search needs
 
--- src/lib.rt:321:13
 of-head-requires : tie.Need-of-head-requires
 of-head-requires c κs = search needs
 
--- src/lib.rt:321:13
 returns : tie.Need-returns
 returns c =
     let s = c .before .before .before .before .before .before .before .before .before .before .before in
@@ -104,19 +82,15 @@ returns c =
     ∙ ap (λ z. head-says (not (keeps true (limit-word (upper-in w (a .base)) bound) (a .greatest))) (not z) (word w (a .base))) y))
     (said-open w (a .n) (a .count) (a .base) (s .pre .0) (a .least) (a .greatest) (s .pre .1) true (c .before .before .before .if3 .taken) (c .before .before .before .before .if2 .taken))
 
--- src/lib.rt:323:25
 keep-requires-3 : tie.Need-keep-requires-3
 keep-requires-3 c κs = search needs
 
--- src/lib.rt:323:53
 keep-requires-4 : tie.Need-keep-requires-4
 keep-requires-4 c κs = search needs
 
--- src/lib.rt:323:9
 of-head-requires-2 : tie.Need-of-head-requires-2
 of-head-requires-2 c κs = search needs
 
--- src/lib.rt:323:9
 returns-2 : tie.Need-returns-2
 returns-2 c =
     let s = c .before .before .before .before .before .before .before .before .before .before .before in
@@ -136,55 +110,42 @@ returns-2 c =
     ∙ ap (λ z. head-says (not (keeps false (limit-word (upper-in w (a .base)) bound) (a .least))) (not z) (word w (a .base))) y))
     (said-open w (a .n) (a .count) (a .base) (s .pre .0) (a .least) (a .greatest) (s .pre .1) false (c .before .before .before .if3 .left) (c .before .before .before .before .if2 .taken))
 
--- src/lib.rt:325:9
 kind-of-requires : tie.Need-kind-of-requires
 kind-of-requires c κs = search needs
 
--- src/lib.rt:326:17
 mul-start : tie.Need-mul-start
 mul-start c = search needs
 
--- src/lib.rt:326:25
 mul-start-2 : tie.Need-mul-start-2
 mul-start-2 c = search needs
 
--- src/lib.rt:326:17
 add-start : tie.Need-add-start
 add-start c = search needs
 
--- src/lib.rt:326:46
 add-start-2 : tie.Need-add-start-2
 add-start-2 c = search needs
 
--- src/lib.rt:326:41
 mul-start-3 : tie.Need-mul-start-3
 mul-start-3 c = search needs
 
--- src/lib.rt:326:41
 shared-slice-read-start : tie.Need-shared-slice-read-start
 shared-slice-read-start c = search needs
 
--- src/lib.rt:326:37
 mul-start-4 : tie.Need-mul-start-4
 mul-start-4 c = search needs
 
--- src/lib.rt:326:17
 add-start-3 : tie.Need-add-start-3
 add-start-3 c = search needs
 
--- src/lib.rt:327:24
 add-merged : tie.Need-add-merged
 add-merged c = search needs
 
--- src/lib.rt:327:19
 mul-merged : tie.Need-mul-merged
 mul-merged c = search needs
 
--- src/lib.rt:327:19
 shared-slice-read-merged : tie.Need-shared-slice-read-merged
 shared-slice-read-merged c = search needs
 
--- src/lib.rt:331:9
 of-body-requires : tie.Need-of-body-requires
 of-body-requires c κs =
     let s = c .before .before .before .before .before .before .before .before .before .before .before .before in
@@ -196,7 +157,6 @@ of-body-requires c κs =
     let words = entry-words w (entry-at w (a .n) (a .count) (a .base)) (merged-at w (a .base)) in
     (entries-at w (a .n) (a .count) (a .base) (s .pre .0) k e, turnable-at w (a .n) (a .count) (a .base) (s .pre .0) (a .least) (a .greatest) (s .pre .1) k e true)
 
--- src/lib.rt:331:9
 returns-3 : tie.Need-returns-3
 returns-3 c =
     let s = c .before .before .before .before .before .before .before .before .before .before .before .before .before in
@@ -222,7 +182,6 @@ returns-3 c =
     (sym (c .of-body .ensures ∙ ap (λ m. body-says k true m (a .greatest) (a .least) v words) limit))
     (said-fixed w (a .n) (a .count) (a .base) (s .pre .0) (a .least) (a .greatest) (s .pre .1) k e odd true (c .before .before .before .before .before .before .if2 .left) refl goes)
 
--- src/lib.rt:333:5
 of-body-requires-2 : tie.Need-of-body-requires-2
 of-body-requires-2 c κs =
     let s = c .before .before .before .before .before .before .before .before .before .before .before .before in
@@ -234,7 +193,6 @@ of-body-requires-2 c κs =
     let words = entry-words w (entry-at w (a .n) (a .count) (a .base)) (merged-at w (a .base)) in
     (entries-at w (a .n) (a .count) (a .base) (s .pre .0) k e, turnable-at w (a .n) (a .count) (a .base) (s .pre .0) (a .least) (a .greatest) (s .pre .1) k e false)
 
--- src/lib.rt:308:1
 returns-4 : tie.Need-returns-4
 returns-4 c =
     let s = c .before .before .before .before .before .before .before .before .before .before .before .before .before in

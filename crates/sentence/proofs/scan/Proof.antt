@@ -1,22 +1,19 @@
-use mathlib.Core.Path.{_≡_, refl, sym, ap, _∙_, subst}
-use mathlib.Core.Bool.{Bool, true, false, _&&_}
+-- `sentence::scan` meets its contract. The loop's invariant: scanning the words from entry i on comes to the whole answer, and turning
+-- their open entries does not wrap. Assumes nothing.
+use mathlib.Core.Path.{_≡_, refl, sym, ap, _∙_}
+use mathlib.Core.Bool.{true, false, _&&_}
 use mathlib.Core.Logic.{⊎-elim}
-use Prim.Native.Nat.{ℕ, _+_, _*_, _-_, _/_, _≤_, _<_}
+use Prim.Native.Nat.{_-_, _/_, _≤_, _<_}
 use native.Mathlib.Omega.{arith}
+use lib.Dec.{eqb}
 use borrow.Author.Needs.{needs}
 use borrow.Author.Tests.{eq-eqb, ne-eqb}
-use lib.Dec.{eqb}
 use Rattle.area.specs.Layout.{value-at, entry-words}
 use Rattle.sentence.specs.declared.Said.the-variants.{Forced}
 use Rattle.sentence.specs.Words.{empty-word, turns-word, wanted-word, scanned, weight-in, literal-in}
 use Rattle.sentence.proofs.Loops.{Scanning, words-from, scanning-starts, scanning-turns, scanning-found, scanning-next, scanning-ends}
 use Rattle.sentence.proofs.scan.Statement.{statement}
 use Rattle.sentence.proofs.scan.Tie as tie
-use Rattle.sentence.proofs.scan.Reads as reads
-use Rattle.sentence.proofs.scan.Lts as lts
-use Rattle.sentence.proofs.empty.Reads as empty-reads
-use Rattle.sentence.proofs.turn.Reads as turn-reads
-use Rattle.sentence.proofs.wanted.Reads as wanted-reads
 
 abbrev Inv-loop : tie.InvT-loop
 Inv-loop area kind up limit e start count n i₀ i =
@@ -25,7 +22,6 @@ Inv-loop area kind up limit e start count n i₀ i =
 abbrev μ-loop : tie.MeasureT-loop
 μ-loop area kind up limit e start count n i₀ i = count - i
 
--- src/lib.rt:246:5
 loop-holds : tie.Need-loop-holds Inv-loop μ-loop
 loop-holds c =
     let a = c .before .args in
@@ -35,51 +31,39 @@ loop-holds c =
       scanning-starts (a .kind) (a .up) (a .limit) (a .e) v area (a .start) (a .count) (scanned (a .kind) (a .up) (a .limit) (a .e) v (entry-words area (a .start) (a .count))) (c .before .pre .1) refl,
     )
 
--- src/lib.rt:247:26
 mul-at : tie.Need-mul-at Inv-loop μ-loop
 mul-at c = search needs
 
--- src/lib.rt:247:18
 add-at : tie.Need-add-at Inv-loop μ-loop
 add-at c = search needs
 
--- src/lib.rt:248:17
 mul-w : tie.Need-mul-w Inv-loop μ-loop
 mul-w c = search needs
 
--- src/lib.rt:248:17
 shared-slice-read-w : tie.Need-shared-slice-read-w Inv-loop μ-loop
 shared-slice-read-w c = search needs
 
--- src/lib.rt:249:22
 add-l : tie.Need-add-l Inv-loop μ-loop
 add-l c = search needs
 
--- src/lib.rt:249:17
 mul-l : tie.Need-mul-l Inv-loop μ-loop
 mul-l c = search needs
 
--- src/lib.rt:249:17
 shared-slice-read-l : tie.Need-shared-slice-read-l Inv-loop μ-loop
 shared-slice-read-l c = search needs
 
--- src/lib.rt:250:22
 sub-v : tie.Need-sub-v Inv-loop μ-loop
 sub-v c = search needs
 
--- src/lib.rt:250:22
 add-v : tie.Need-add-v Inv-loop μ-loop
 add-v c = omega (arith, c .before .before .before .before .before .pre .0 .atom-high (c .before .before .before .loop .i) (c .before .before .loop-test .taken))
 
--- src/lib.rt:250:17
 mul-v : tie.Need-mul-v Inv-loop μ-loop
 mul-v c = omega (arith, c .before .before .before .before .before .pre .0 .atom-high (c .before .before .before .loop .i) (c .before .before .loop-test .taken))
 
--- src/lib.rt:250:17
 shared-slice-read-v : tie.Need-shared-slice-read-v Inv-loop μ-loop
 shared-slice-read-v c = omega (arith, c .before .before .before .before .before .before .pre .0 .literal (c .before .before .before .before .loop .i) (c .before .before .before .loop-test .taken), c .before .before .before .before .before .before .pre .0 .atom-high (c .before .before .before .before .loop .i) (c .before .before .before .loop-test .taken))
 
--- src/lib.rt:252:16
 turn-requires : tie.Need-turn-requires Inv-loop μ-loop
 turn-requires c κs =
     let a = c .before .before .before .before .before .before .before .args in
@@ -94,11 +78,9 @@ turn-requires c κs =
     let s : Scanning (a .kind) (a .up) (a .limit) (a .e) v (words-from area (a .start) (a .count) i) answer = c .before .before .before .before .before .loop .inv .1 in
     scanning-turns (a .kind) (a .up) (a .limit) (a .e) v area (a .start) (a .count) answer i h g s (c .if1 .taken)
 
--- src/lib.rt:253:48
 empty-requires : tie.Need-empty-requires Inv-loop μ-loop
 empty-requires c κs = search needs
 
--- src/lib.rt:253:37
 wanted-requires : tie.Need-wanted-requires Inv-loop μ-loop
 wanted-requires c κs =
     let a = c .before .before .before .before .before .before .before .before .before .before .args in
@@ -115,7 +97,6 @@ wanted-requires c κs =
     let high : l / 2 ≤ a .n = c .before .before .before .before .before .before .before .before .before .before .pre .0 .atom-high i h in
     (low, omega (arith, c .before .before .before .before .before .before .before .before .before .before .pre .0 .values))
 
--- src/lib.rt:253:17
 returns : tie.Need-returns Inv-loop μ-loop
 returns c =
     let a = c .before .before .before .before .before .before .before .before .before .before .before .args in
@@ -133,15 +114,12 @@ returns c =
     let word : c .wanted .result ≡ wanted-word (a .up) (empty-word (a .kind)) w l = c .wanted .ensures ∙ ap (λ e. wanted-word (a .up) e w l) (c .before .empty .ensures) in
     ap Forced word ∙ scanning-found (a .kind) (a .up) (a .limit) (a .e) v area (a .start) (a .count) answer i h g s true found
 
--- src/lib.rt:256:9
 add-i : tie.Need-add-i Inv-loop μ-loop
 add-i c = search needs
 
--- src/lib.rt:246:5
 loop-less : tie.Need-loop-less Inv-loop μ-loop
 loop-less c = search needs
 
--- src/lib.rt:246:5
 loop-again : tie.Need-loop-again Inv-loop μ-loop
 loop-again c =
     let a = c .before .before .before .before .before .before .before .args in
@@ -161,7 +139,6 @@ loop-again c =
     (c .if1 .came) in
     (omega arith, scanning-next (a .kind) (a .up) (a .limit) (a .e) v area (a .start) (a .count) answer i h g s passed)
 
--- src/lib.rt:240:1
 returns-2 : tie.Need-returns-2 Inv-loop μ-loop
 returns-2 c =
     let a = c .before .before .before .args in

@@ -1,7 +1,8 @@
-use mathlib.Core.Path.{_≡_, refl, sym, ap, _∙_, subst}
-use mathlib.Core.Bool.{Bool, true, false}
+-- `sentence::second` meets its contract. The loop's invariant: from `best` and `next` on, the contributions from entry i on leave the whole
+-- second best. Assumes nothing.
+use mathlib.Core.Path.{_≡_, sym, ap, _∙_}
 use mathlib.Core.Logic.{⊎-elim}
-use Prim.Native.Nat.{ℕ, _+_, _*_, _-_, _/_, _≤_, _<_}
+use Prim.Native.Nat.{_-_, _/_, _≤_, _<_}
 use native.Mathlib.Omega.{arith}
 use borrow.Author.Needs.{needs}
 use Rattle.area.specs.Layout.{value-at, entry-words}
@@ -9,11 +10,6 @@ use Rattle.sentence.specs.Words.{empty-word, best-kind, reach-word, furt
 use Rattle.sentence.proofs.Loops.{Seconds, next-in, seconds-start, seconds-next, seconds-end}
 use Rattle.sentence.proofs.second.Statement.{statement}
 use Rattle.sentence.proofs.second.Tie as tie
-use Rattle.sentence.proofs.second.Reads as reads
-use Rattle.sentence.proofs.second.Lts as lts
-use Rattle.sentence.proofs.furthest.Reads as furthest-reads
-use Rattle.sentence.proofs.nearest.Reads as nearest-reads
-use Rattle.sentence.proofs.reach.Reads as reach-reads
 
 abbrev Inv-loop : tie.InvT-loop
 Inv-loop area up start count n none best₀ next₀ i₀ best next i =
@@ -23,7 +19,6 @@ Inv-loop area up start count n none best₀ next₀ i₀ best next i =
 abbrev μ-loop : tie.MeasureT-loop
 μ-loop area up start count n none best₀ next₀ i₀ best next i = count - i
 
--- src/lib.rt:174:5
 loop-holds : tie.Need-loop-holds Inv-loop μ-loop
 loop-holds c =
     let a = c .before .before .args in
@@ -40,75 +35,57 @@ loop-holds c =
       e,
     )
 
--- src/lib.rt:175:26
 mul-at : tie.Need-mul-at Inv-loop μ-loop
 mul-at c = search needs
 
--- src/lib.rt:175:18
 add-at : tie.Need-add-at Inv-loop μ-loop
 add-at c = search needs
 
--- src/lib.rt:176:17
 mul-w : tie.Need-mul-w Inv-loop μ-loop
 mul-w c = search needs
 
--- src/lib.rt:176:17
 shared-slice-read-w : tie.Need-shared-slice-read-w Inv-loop μ-loop
 shared-slice-read-w c = search needs
 
--- src/lib.rt:177:22
 add-l : tie.Need-add-l Inv-loop μ-loop
 add-l c = search needs
 
--- src/lib.rt:177:17
 mul-l : tie.Need-mul-l Inv-loop μ-loop
 mul-l c = search needs
 
--- src/lib.rt:177:17
 shared-slice-read-l : tie.Need-shared-slice-read-l Inv-loop μ-loop
 shared-slice-read-l c = search needs
 
--- src/lib.rt:178:22
 sub-v : tie.Need-sub-v Inv-loop μ-loop
 sub-v c = search needs
 
--- src/lib.rt:178:22
 add-v : tie.Need-add-v Inv-loop μ-loop
 add-v c = omega (arith, c .before .before .before .before .before .before .pre .atom-high (c .before .before .before .loop .i) (c .before .before .loop-test .taken))
 
--- src/lib.rt:178:17
 mul-v : tie.Need-mul-v Inv-loop μ-loop
 mul-v c = omega (arith, c .before .before .before .before .before .before .pre .atom-high (c .before .before .before .loop .i) (c .before .before .loop-test .taken))
 
--- src/lib.rt:178:17
 shared-slice-read-v : tie.Need-shared-slice-read-v Inv-loop μ-loop
 shared-slice-read-v c = omega (arith, c .before .before .before .before .before .before .before .pre .literal (c .before .before .before .before .loop .i) (c .before .before .before .loop-test .taken), c .before .before .before .before .before .before .before .pre .atom-high (c .before .before .before .before .loop .i) (c .before .before .before .loop-test .taken))
 
--- src/lib.rt:179:13
 reach-requires : tie.Need-reach-requires Inv-loop μ-loop
 reach-requires c κs = search needs
 
--- src/lib.rt:180:35
 nearest-requires : tie.Need-nearest-requires Inv-loop μ-loop
 nearest-requires c κs = search needs
 
--- src/lib.rt:180:9
 furthest-requires : tie.Need-furthest-requires Inv-loop μ-loop
 furthest-requires c κs = search needs
 
--- src/lib.rt:181:9
 furthest-requires-2 : tie.Need-furthest-requires-2 Inv-loop μ-loop
 furthest-requires-2 c κs = search needs
 
--- src/lib.rt:182:9
 add-i : tie.Need-add-i Inv-loop μ-loop
 add-i c = search needs
 
--- src/lib.rt:174:5
 loop-less : tie.Need-loop-less Inv-loop μ-loop
 loop-less c = search needs
 
--- src/lib.rt:174:5
 loop-again : tie.Need-loop-again Inv-loop μ-loop
 loop-again c =
     let a = c .before .before .before .before .before .before .before .before .before .before .before .args in
@@ -132,7 +109,6 @@ loop-again c =
       j .2,
     )
 
--- src/lib.rt:166:1
 returns : tie.Need-returns Inv-loop μ-loop
 returns c =
     let a = c .before .before .before .before .args in

@@ -1,13 +1,11 @@
+-- `sentence::kind_of` meets its contract: the numbers from 4 on are the minimum's, as the layout has it. Assumes nothing.
 use mathlib.Core.Path.{_≡_, refl}
 use Prim.Native.Nat.{ℕ, zero, suc}
+use borrow.Author.Needs.{needs}
 use Rattle.meaning.specs.Meaning.{minimum}
 use Rattle.area.specs.Layout.{kind-of}
-use native.Mathlib.Omega.{arith}
-use borrow.Author.Needs.{needs}
-use Rattle.sentence.proofs.kind_of.Statement.{statement}
-use Rattle.sentence.proofs.kind_of.Tie as tie
-use Rattle.sentence.proofs.kind_of.Reads as reads
-use Rattle.sentence.proofs.kind_of.Lts as lts
+use Rattle.sentence.proofs.steps.kind_of.Statement.{statement}
+use Rattle.sentence.proofs.steps.kind_of.Tie as tie
 
 others-minimum : (x : ℕ) → ¬ (x ≡ 0) → ¬ (x ≡ 1) → ¬ (x ≡ 2) → ¬ (x ≡ 3) → minimum ≡ kind-of x
 others-minimum zero a b c d = absurd (a refl)
@@ -16,23 +14,18 @@ others-minimum (suc (suc zero)) a b c d = absurd (c refl)
 others-minimum (suc (suc (suc zero))) a b c d = absurd (d refl)
 others-minimum (suc (suc (suc (suc x)))) a b c d = refl
 
--- src/lib.rt:35:1
 returns : tie.Need-returns
 returns c = search needs
 
--- src/lib.rt:35:1
 returns-2 : tie.Need-returns-2
 returns-2 c = search needs
 
--- src/lib.rt:35:1
 returns-3 : tie.Need-returns-3
 returns-3 c = search needs
 
--- src/lib.rt:35:1
 returns-4 : tie.Need-returns-4
 returns-4 c = search needs
 
--- src/lib.rt:35:1
 returns-5 : tie.Need-returns-5
 returns-5 c = others-minimum (c .before .args .number) (c .match .rest .0 .0 .0 .1) (c .match .rest .0 .0 .1) (c .match .rest .0 .1) (c .match .rest .1)
 

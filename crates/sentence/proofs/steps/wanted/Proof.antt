@@ -1,34 +1,25 @@
-use native.Mathlib.Omega.{arith}
+-- `sentence::wanted` meets its contract: the literal itself where the weight is the furthest, and else its opposite. Assumes nothing.
 use mathlib.Core.Path.{sym, _∙_}
 use borrow.Author.Tests.{eq-eqb, ne-eqb}
 use borrow.Author.Needs.{needs}
-use Rattle.sentence.proofs.wanted.Statement.{statement}
-use Rattle.sentence.proofs.wanted.Tie as tie
-use Rattle.sentence.proofs.wanted.Reads as reads
-use Rattle.sentence.proofs.wanted.Lts as lts
-use Rattle.sentence.proofs.furthest.Reads as furthest-reads
+use Rattle.sentence.proofs.steps.wanted.Statement.{statement}
+use Rattle.sentence.proofs.steps.wanted.Tie as tie
 
--- src/lib.rt:233:8
 furthest-requires : tie.Need-furthest-requires
 furthest-requires c κs = search needs
 
--- src/lib.rt:234:9
 returns : tie.Need-returns
 returns c = rw (eq-eqb _ _ (sym (c .before .furthest .ensures) ∙ c .if1 .taken))
 
--- src/lib.rt:236:21
 add-result : tie.Need-add-result
 add-result c = search needs
 
--- src/lib.rt:236:36
 sub-result : tie.Need-sub-result
 sub-result c = search needs
 
--- src/lib.rt:229:1
 returns-2 : tie.Need-returns-2
 returns-2 c = rw (ne-eqb _ _ (λ e. c .before .if1 .left (c .before .before .furthest .ensures ∙ e)), eq-eqb _ _ (c .if2 .taken))
 
--- src/lib.rt:229:1
 returns-3 : tie.Need-returns-3
 returns-3 c = rw (ne-eqb _ _ (λ e. c .before .if1 .left (c .before .before .furthest .ensures ∙ e)), ne-eqb _ _ (c .if2 .left))
 

@@ -1,24 +1,17 @@
-use borrow.Author.Needs.{needs}
+-- `sentence::nearest` meets its contract: each branch is the lesser or the larger of the two words. Assumes nothing.
 use native.Mathlib.Omega.{arith}
-use native.Mathlib.Omega.{arith}
-use Rattle.sentence.proofs.nearest.Statement.{statement}
-use Rattle.sentence.proofs.nearest.Tie as tie
-use Rattle.sentence.proofs.nearest.Reads as reads
-use Rattle.sentence.proofs.nearest.Lts as lts
+use Rattle.sentence.proofs.steps.nearest.Statement.{statement}
+use Rattle.sentence.proofs.steps.nearest.Tie as tie
 
--- src/lib.rt:82:1
 returns : tie.Need-returns
 returns c = rw (c .before .if1 .taken) (omega arith)
 
--- src/lib.rt:82:1
 returns-2 : tie.Need-returns-2
 returns-2 c = rw (c .before .if1 .taken) (omega arith)
 
--- src/lib.rt:82:1
 returns-3 : tie.Need-returns-3
 returns-3 c = rw (c .before .if1 .left) (omega arith)
 
--- src/lib.rt:82:1
 returns-4 : tie.Need-returns-4
 returns-4 c = rw (c .before .if1 .left) (omega arith)
 

@@ -1,94 +1,70 @@
-use mathlib.Core.Path.{_≡_, subst, ap, _∙_}
+-- `sentence::turn` meets its contract, kind by kind. Assumes nothing.
+use mathlib.Core.Path.{subst, ap, _∙_}
 use mathlib.Core.Bool.{not}
-use Rattle.sentence.specs.declared.Kind.{Kind}
-use Rattle.sentence.specs.Words.{keeps, turns-word}
-use Rattle.sentence.specs.Room.{Turns}
 use borrow.Author.Needs.{needs}
-use Rattle.sentence.proofs.turn.Statement.{statement}
-use Rattle.sentence.proofs.turn.Tie as tie
-use Rattle.sentence.proofs.turn.Reads as reads
-use Rattle.sentence.proofs.turn.Lts as lts
-use Rattle.sentence.proofs.keep.Reads as keep-reads
-use Rattle.sentence.proofs.scale.Reads as scale-reads
-use Rattle.sentence.proofs.shift.Reads as shift-reads
+use Rattle.sentence.specs.declared.Kind.{Kind}
+use Rattle.sentence.specs.Words.{keeps}
+use Rattle.sentence.specs.Room.{Turns}
+use Rattle.sentence.proofs.steps.turn.Statement.{statement}
+use Rattle.sentence.proofs.steps.turn.Tie as tie
 
--- src/lib.rt:220:39
 enum-told : tie.Need-enum-told
 enum-told c = search needs
 
--- src/lib.rt:220:39
 shift-requires : tie.Need-shift-requires
 shift-requires c κs = subst (λ (k : Kind). Turns k (c .before .before .args .up) (c .before .before .args .e) (c .before .before .args .w)) (c .enum-told .given .1) (c .before .before .pre)
 
--- src/lib.rt:220:23
 keep-requires : tie.Need-keep-requires
 keep-requires c κs = search needs
 
--- src/lib.rt:221:43
 enum-told-2 : tie.Need-enum-told-2
 enum-told-2 c = search needs
 
--- src/lib.rt:221:43
 scale-requires : tie.Need-scale-requires
 scale-requires c κs = subst (λ (k : Kind). Turns k (c .before .before .args .up) (c .before .before .args .e) (c .before .before .args .w)) (c .enum-told2 .given .1) (c .before .before .pre)
 
--- src/lib.rt:221:27
 keep-requires-2 : tie.Need-keep-requires-2
 keep-requires-2 c κs = search needs
 
--- src/lib.rt:222:41
 enum-told-3 : tie.Need-enum-told-3
 enum-told-3 c = search needs
 
--- src/lib.rt:222:41
 shift-requires-2 : tie.Need-shift-requires-2
 shift-requires-2 c κs = subst (λ (k : Kind). Turns k (c .before .before .args .up) (c .before .before .args .e) (c .before .before .args .w)) (c .enum-told3 .given .1) (c .before .before .pre)
 
--- src/lib.rt:222:25
 keep-requires-3 : tie.Need-keep-requires-3
 keep-requires-3 c κs = search needs
 
--- src/lib.rt:223:25
 enum-told-4 : tie.Need-enum-told-4
 enum-told-4 c = search needs
 
--- src/lib.rt:223:47
 keep-requires-4 : tie.Need-keep-requires-4
 keep-requires-4 c κs = search needs
 
--- src/lib.rt:224:25
 enum-told-5 : tie.Need-enum-told-5
 enum-told-5 c = search needs
 
--- src/lib.rt:224:31
 keep-requires-5 : tie.Need-keep-requires-5
 keep-requires-5 c κs = search needs
 
--- src/lib.rt:215:1
 returns : tie.Need-returns
 returns c = rw (c .before .before .enum-told .given .1) (ap not (c .keep .ensures ∙ ap (keeps (c .before .before .before .before .args .up) (c .before .before .before .before .args .limit)) (c .before .shift .ensures)))
 
--- src/lib.rt:215:1
 returns-2 : tie.Need-returns-2
 returns-2 c = rw (c .before .before .enum-told2 .given .1) (ap not (c .keep2 .ensures ∙ ap (keeps (c .before .before .before .before .args .up) (c .before .before .before .before .args .limit)) (c .before .scale .ensures)))
 
--- src/lib.rt:215:1
 returns-3 : tie.Need-returns-3
 returns-3 c = rw (c .before .before .enum-told3 .given .1) (ap not (c .keep3 .ensures ∙ ap (keeps (c .before .before .before .before .args .up) (c .before .before .before .before .args .limit)) (c .before .shift2 .ensures)))
 
--- src/lib.rt:215:1
 returns-4 : tie.Need-returns-4
 returns-4 c = rw (c .before .enum-told4 .given .1, c .if1 .taken)
 
--- src/lib.rt:215:1
 returns-5 : tie.Need-returns-5
 returns-5 c = rw (c .before .before .enum-told4 .given .1, c .before .if1 .left) (ap not (c .keep4 .ensures ∙ ap (λ u. keeps u (c .before .before .before .before .args .limit) (c .before .before .before .before .args .w)) (c .before .if1 .left)))
 
--- src/lib.rt:215:1
 returns-6 : tie.Need-returns-6
 returns-6 c = rw (c .before .before .enum-told5 .given .1, c .before .if2 .taken) (ap not (c .keep5 .ensures ∙ ap (λ u. keeps u (c .before .before .before .before .args .limit) (c .before .before .before .before .args .w)) (c .before .if2 .taken)))
 
--- src/lib.rt:215:1
 returns-7 : tie.Need-returns-7
 returns-7 c = rw (c .before .enum-told5 .given .1, c .if2 .left)
 

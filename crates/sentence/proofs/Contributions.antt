@@ -4,16 +4,16 @@ use mathlib.Core.Path.{_≡_, refl, sym, _∙_, ap}
 use mathlib.Core.Bool.{Bool, true, false, cond}
 use mathlib.Core.Logic.{_⊎_, inl, inr, ⊎-elim}
 use mathlib.Core.List.{List, [], _∷_}
-use Prim.Native.Nat.{ℕ, _+_, _-_, _/_, _%_, _≤_, _<_}
+use Prim.Native.Nat.{ℕ, _-_, _/_, _%_, _≤_, _<_}
 use native.Mathlib.Omega.{arith}
-use lib.IntN.{ℤ, pos, negsuc, natAbs}
+use lib.IntN.{ℤ, pos, negsuc}
 use lib.Dec.{eqb}
 use borrow.Author.Tests.{ne-eqb}
 use Rattle.numbers.specs.Extended.{Extended, Direction, up, down, at}
 use Rattle.numbers.specs.Words.{top, unbias, unword, literal-of}
 use Rattle.numbers.proofs.Words.{cases, parity, unword-at, literal-even, literal-odd}
 use Rattle.meaning.specs.Meaning.{atom, truth, Entry, maximum, minimum, empty}
-use Rattle.meaning.specs.Computed.{furthest, combine, gather, given, Standing, free, fixed, standing, reach, extreme-of}
+use Rattle.meaning.specs.Computed.{furthest, combine, gather, given, fixed, standing, reach, extreme-of}
 use Rattle.meaning.proofs.Orders.{combine-comm}
 use Rattle.area.specs.Layout.{entries-of}
 use Rattle.sentence.specs.declared.Kind.{Kind}
@@ -68,7 +68,7 @@ module _ (k : Kind) (u : Bool) (n w l : ℕ) (fine : Proper k n w l) where
   weight-is : unword w ≡ at (unbias w)
   weight-is = unword-at w (fine .low) (fine .high)
 
-  pub reach-means : (x : ℕ) → unword (reach-word u (empty-word k) w l x) ≡ reach (direction u) (given (meant k) (entry-of w l)) (standing-word x)
+  reach-means : (x : ℕ) → unword (reach-word u (empty-word k) w l x) ≡ reach (direction u) (given (meant k) (entry-of w l)) (standing-word x)
   reach-means x = go (parity l) (cases 0 x) (parity x)
     where
       open-is : unword (furthest-word u w (empty-word k)) ≡ furthest (direction u) (at (unbias w)) (empty (meant k))
@@ -90,7 +90,7 @@ module _ (k : Kind) (u : Bool) (n w l : ℕ) (fine : Proper k n w l) where
       go (inr e) (inr z) (inl p) = set (negsuc (l / 2 - 1)) (literal-odd l (fine .literal) e) 0 1 z p e weight-is
       go (inr e) (inr z) (inr p) = set (negsuc (l / 2 - 1)) (literal-odd l (fine .literal) e) 1 1 z p e (unword-empty k)
 
-  pub reach-in : (x : ℕ) → In k (reach-word u (empty-word k) w l x)
+  reach-in : (x : ℕ) → In k (reach-word u (empty-word k) w l x)
   reach-in x =
       pick (furthest-word u w (empty-word k)) (cond (eqb (x % 2) (l % 2)) (empty-word k) w) (eqb x 0) (furthest-in k u w (empty-word k) (fine .weight) (in-empty k))
       (pick (empty-word k) w (eqb (x % 2) (l % 2)) (in-empty k) (fine .weight))

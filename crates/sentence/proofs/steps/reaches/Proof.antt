@@ -1,0 +1,24 @@
+-- `sentence::reaches` meets its contract: an open atom, a false literal, a true one. Assumes nothing.
+use borrow.Author.Tests.{eq-eqb, ne-eqb}
+use borrow.Author.Needs.{needs}
+use Rattle.sentence.proofs.steps.reaches.Statement.{statement}
+use Rattle.sentence.proofs.steps.reaches.Tie as tie
+
+furthest-requires : tie.Need-furthest-requires
+furthest-requires c κs = search needs
+
+furthest-requires-2 : tie.Need-furthest-requires-2
+furthest-requires-2 c κs = search needs
+
+returns : tie.Need-returns
+returns c = record { least-is = rw (eq-eqb _ _ (c .before .before .if1 .taken)) (c .before .furthest .ensures); greatest-is = rw (eq-eqb _ _ (c .before .before .if1 .taken)) (c .furthest2 .ensures) }
+
+returns-2 : tie.Need-returns-2
+returns-2 c = record { least-is = rw (ne-eqb _ _ (c .before .if1 .left), eq-eqb _ _ (c .if2 .taken)); greatest-is = rw (ne-eqb _ _ (c .before .if1 .left), eq-eqb _ _ (c .if2 .taken)) }
+
+returns-3 : tie.Need-returns-3
+returns-3 c = record { least-is = rw (ne-eqb _ _ (c .before .if1 .left), ne-eqb _ _ (c .if2 .left)); greatest-is = rw (ne-eqb _ _ (c .before .if1 .left), ne-eqb _ _ (c .if2 .left)) }
+
+pub reaches-spec : {M : Type 1} → statement M
+reaches-spec =
+    tie.close (tie.spec furthest-requires furthest-requires-2 returns returns-2 returns-3)

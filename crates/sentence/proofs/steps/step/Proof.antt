@@ -1,0 +1,92 @@
+-- `sentence::step` meets its contract, kind by kind: what it asks of both steps is what each kind's operation asks. Assumes nothing.
+use mathlib.Core.Path.{subst}
+use borrow.Author.Needs.{needs}
+use Rattle.sentence.specs.declared.Kind.{Kind}
+use Rattle.sentence.specs.Room.{Steps}
+use Rattle.sentence.proofs.steps.step.Statement.{statement}
+use Rattle.sentence.proofs.steps.step.Tie as tie
+
+enum-told : tie.Need-enum-told
+enum-told c = search needs
+
+plus-requires : tie.Need-plus-requires
+plus-requires c κs = subst (λ (k : Kind). Steps k (c .before .before .args .least) (c .before .before .args .low)) (c .enum-told .given .1) (c .before .before .pre .0)
+
+plus-requires-2 : tie.Need-plus-requires-2
+plus-requires-2 c κs = subst (λ (k : Kind). Steps k (c .before .before .before .args .greatest) (c .before .before .before .args .high)) (c .before .enum-told .given .1) (c .before .before .before .pre .1)
+
+enum-told-2 : tie.Need-enum-told-2
+enum-told-2 c = search needs
+
+times-requires : tie.Need-times-requires
+times-requires c κs = subst (λ (k : Kind). Steps k (c .before .before .args .least) (c .before .before .args .low)) (c .enum-told2 .given .1) (c .before .before .pre .0)
+
+times-requires-2 : tie.Need-times-requires-2
+times-requires-2 c κs = subst (λ (k : Kind). Steps k (c .before .before .before .args .greatest) (c .before .before .before .args .high)) (c .before .enum-told2 .given .1) (c .before .before .before .pre .1)
+
+enum-told-3 : tie.Need-enum-told-3
+enum-told-3 c = search needs
+
+plus-requires-3 : tie.Need-plus-requires-3
+plus-requires-3 c κs = subst (λ (k : Kind). Steps k (c .before .before .args .least) (c .before .before .args .low)) (c .enum-told3 .given .1) (c .before .before .pre .0)
+
+plus-requires-4 : tie.Need-plus-requires-4
+plus-requires-4 c κs = subst (λ (k : Kind). Steps k (c .before .before .before .args .greatest) (c .before .before .before .args .high)) (c .before .enum-told3 .given .1) (c .before .before .before .pre .1)
+
+enum-told-4 : tie.Need-enum-told-4
+enum-told-4 c = search needs
+
+furthest-requires : tie.Need-furthest-requires
+furthest-requires c κs = search needs
+
+furthest-requires-2 : tie.Need-furthest-requires-2
+furthest-requires-2 c κs = search needs
+
+enum-told-5 : tie.Need-enum-told-5
+enum-told-5 c = search needs
+
+furthest-requires-3 : tie.Need-furthest-requires-3
+furthest-requires-3 c κs = search needs
+
+furthest-requires-4 : tie.Need-furthest-requires-4
+furthest-requires-4 c κs = search needs
+
+returns : tie.Need-returns
+returns c = record { least-is = rw (c .before .before .enum-told .given .1) (c .before .plus .ensures); greatest-is = rw (c .before .before .enum-told .given .1) (c .plus2 .ensures) }
+
+returns-2 : tie.Need-returns-2
+returns-2 c = record { least-is = rw (c .before .before .enum-told2 .given .1) (c .before .times .ensures); greatest-is = rw (c .before .before .enum-told2 .given .1) (c .times2 .ensures) }
+
+returns-3 : tie.Need-returns-3
+returns-3 c = record { least-is = rw (c .before .before .enum-told3 .given .1) (c .before .plus3 .ensures); greatest-is = rw (c .before .before .enum-told3 .given .1) (c .plus4 .ensures) }
+
+returns-4 : tie.Need-returns-4
+returns-4 c = record { least-is = rw (c .before .before .enum-told4 .given .1) (c .before .furthest .ensures); greatest-is = rw (c .before .before .enum-told4 .given .1) (c .furthest2 .ensures) }
+
+returns-5 : tie.Need-returns-5
+returns-5 c = record { least-is = rw (c .before .before .enum-told5 .given .1) (c .before .furthest3 .ensures); greatest-is = rw (c .before .before .enum-told5 .given .1) (c .furthest4 .ensures) }
+
+pub step-spec : {M : Type 1} → statement M
+step-spec =
+    tie.close
+    (tie.spec
+    enum-told
+    plus-requires
+    plus-requires-2
+    enum-told-2
+    times-requires
+    times-requires-2
+    enum-told-3
+    plus-requires-3
+    plus-requires-4
+    enum-told-4
+    furthest-requires
+    furthest-requires-2
+    enum-told-5
+    furthest-requires-3
+    furthest-requires-4
+    returns
+    returns-2
+    returns-3
+    returns-4
+    returns-5)
