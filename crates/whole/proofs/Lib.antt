@@ -1,1 +1,3 @@
 pub mod Join
+pub mod CheckMatching
+pub mod CheckSentences
