@@ -5,3 +5,5 @@ pub mod Determined
 pub mod GivesExtremes
 pub mod GivesSilence
 pub mod Gives
+pub mod CheckMatching
+pub mod CheckSentences

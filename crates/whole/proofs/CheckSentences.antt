@@ -1,0 +1,85 @@
+-- The check of the sentences, sentence by sentence: those passed are right over every trail that the values show, and no stamp is above
+-- the number of their entries. A sentence whose places and words are right can be evaluated.
+-- Assumes nothing.
+use mathlib.Core.Path.{_≡_, refl, sym, subst}
+use mathlib.Core.Bool.{Bool, true, false, not}
+use mathlib.Core.List.{List}
+use Prim.Native.Nat.{ℕ, _+_, _<_, _≤_}
+use native.Mathlib.Omega.{arith}
+use lib.IntN.{ℤ}
+use lib.ListN.{length, replicate}
+use borrow.Author.Count.{below-more, below-none}
+use Rattle.types.specs.declared.Limits.{Limits}
+use Rattle.decide.proofs.Tells.{told-yes, told-no, denied, granted}
+use Rattle.area.specs.Layout.{record-at, before-at, written-at, entries-before}
+use Rattle.sentence.specs.Sentence.{Shows, Ready}
+use Rattle.theory_check.specs.Theory.{SentenceOk, Stamps, Checkable}
+use Rattle.theory_check.proofs.Places.{placed}
+use Rattle.theory_check.proofs.Stamping.{zero-stamps}
+use Rattle.whole.specs.Parts.{Matching, SentenceRight}
+use Rattle.whole.specs.Check.{SentencesAsked, TellsOver, RightBelow}
+
+-- the first s sentences are passed
+pub record Passed (lim : Limits) (w : List ℕ) (n S s : ℕ) (seen : List ℕ) : Type 0 where
+  pub few : s ≤ S
+  pub stamps : Stamps seen (entries-before w n s)
+  pub right : (t : List ℤ) → Shows w n t → RightBelow lim w n S s t
+
+module _ {lim : Limits} {w : List ℕ} {n S : ℕ} (asked : SentencesAsked lim w n S) where
+  pub none-passed : Passed lim w n S 0 (replicate 4097 0)
+  none-passed = record { few = omega arith; stamps = zero-stamps 4097 (entries-before w n 0) refl; right = λ t _. below-none (λ s. SentenceRight lim w n S (record-at n s) t) }
+
+  module _ (s : ℕ) (l : s < S) where
+    pub inside : record-at n s + 8 ≤ length w
+    inside = placed lim w n S s (asked .places) l .own
+
+    pub checkable : (seen : List ℕ) → Stamps seen (entries-before w n s) → Checkable lim w n S (record-at n s) seen (before-at w (record-at n s))
+    checkable seen stamps =
+        let p = placed lim w n S s (asked .places) l in
+        record {
+          fitting = asked .fitting;
+          atoms-low = asked .atoms-low;
+          atoms-high = asked .atoms-high;
+          sentences = asked .sentences;
+          own = p .own;
+          few = p .few;
+          merged = p .merged;
+          room = p .room;
+          stamps = subst (Stamps seen) (sym (asked .places .each s l .place)) stamps;
+          stamps-high = omega (arith, p .entries, asked .fitting .entries);
+        }
+
+    pub ready : SentenceOk lim w n S (record-at n s) → Ready w n S (record-at n s)
+    ready ok =
+        let p = placed lim w n S s (asked .places) l in (
+          lim,
+          record {
+            fitting = asked .fitting;
+            atoms-low = asked .atoms-low;
+            atoms-high = asked .atoms-high;
+            sentences = asked .sentences;
+            values = omega (arith, asked .places .room);
+            own = p .own;
+            entries = omega (arith, p .room, p .merged);
+            merged = omega (arith, p .few, p .merged);
+            kind = ok .kind;
+            rule = ok .rule;
+          },
+        )
+
+    pub words-wrong : ¬ (SentenceOk lim w n S (record-at n s)) → TellsOver w n false (RightBelow lim w n S S)
+    words-wrong d t _ = told-no (λ h. d (h s l .words))
+
+    pub matching-wrong : {r : Bool} → TellsOver w n r (Matching w n S (record-at n s)) → not r ≡ true → TellsOver w n false (RightBelow lim w n S S)
+    matching-wrong m e t shown = told-no (λ h. denied (m t shown) e (h s l .matching))
+
+    pub one-passed : {r : Bool} (seen after : List ℕ) → Passed lim w n S s seen → Stamps after (before-at w (record-at n s) + written-at w (record-at n s))
+        → SentenceOk lim w n S (record-at n s) → TellsOver w n r (Matching w n S (record-at n s)) → not r ≡ false → Passed lim w n S (s + 1) after
+    one-passed seen after p stamps ok m e = record {
+      few = omega arith;
+      stamps = subst (Stamps after) (placed lim w n S s (asked .places) l .next) stamps;
+      right = λ t shown. below-more (λ k. SentenceRight lim w n S (record-at n k) t) s (p .right t shown) (record { words = ok; matching = granted (m t shown) e });
+    }
+
+  pub all-passed : (s : ℕ) (seen : List ℕ) → Passed lim w n S s seen → S ≤ s → TellsOver w n true (RightBelow lim w n S S)
+  all-passed s seen p l t shown = told-yes (λ k m. p .right t shown k (omega arith))

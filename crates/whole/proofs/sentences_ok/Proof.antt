@@ -1,0 +1,93 @@
+-- The sentences passed are right over every trail that the values show, and the stamps are of their entries (`Passed`).
+-- Assumes nothing.
+use mathlib.Core.Path.{sym}
+use Prim.Native.Nat.{_+_, _-_, _≤_}
+use native.Mathlib.Omega.{arith}
+use lib.ListN.{length}
+use borrow.Author.Needs.{needs}
+use Rattle.decide.proofs.Tells.{denied, granted}
+use Rattle.area.specs.Layout.{record-at}
+use Rattle.whole.proofs.CheckSentences.{Passed, none-passed, inside, checkable, ready, words-wrong, matching-wrong, one-passed, all-passed}
+use Rattle.whole.proofs.sentences_ok.Statement.{statement}
+use Rattle.whole.proofs.sentences_ok.Tie as tie
+
+abbrev Inv-loop : tie.InvT-loop
+Inv-loop area lim n count seen₀ s₀ seen s = Passed lim area n count s seen
+
+abbrev μ-loop : tie.MeasureT-loop
+μ-loop area lim n count seen₀ s₀ seen s = count - s
+
+-- the sentence's words are inside
+own-inside : (c : tie.In-loop Inv-loop μ-loop) → record-at (c .before .before .before .args .n) (c .before .loop .s) + 8 ≤ length (c .before .before .before .args .area .now)
+own-inside c = inside (c .before .before .before .pre) (c .before .loop .s) (c .loop-test .taken)
+
+loop-holds : tie.Need-loop-holds Inv-loop μ-loop
+loop-holds c = none-passed (c .before .pre)
+
+mul-base : tie.Need-mul-base Inv-loop μ-loop
+mul-base c = omega (arith, own-inside c)
+
+mul-base-2 : tie.Need-mul-base-2 Inv-loop μ-loop
+mul-base-2 c = omega (arith, own-inside c)
+
+add-base : tie.Need-add-base Inv-loop μ-loop
+add-base c = omega (arith, own-inside c)
+
+add-old : tie.Need-add-old Inv-loop μ-loop
+add-old c = omega (arith, own-inside c)
+
+mul-old : tie.Need-mul-old Inv-loop μ-loop
+mul-old c = omega (arith, own-inside c)
+
+shared-slice-read-old : tie.Need-shared-slice-read-old Inv-loop μ-loop
+shared-slice-read-old c = omega (arith, own-inside (c .before))
+
+slice-aggregate-sentence-ok : tie.Need-slice-aggregate-sentence-ok Inv-loop μ-loop
+slice-aggregate-sentence-ok c = sym (c .before .before .before .loop .inv .stamps .size)
+
+sentence-ok-requires : tie.Need-sentence-ok-requires Inv-loop μ-loop
+sentence-ok-requires c κs = checkable (c .before .before .before .before .before .pre) (c .before .before .before .loop .s) (c .before .before .loop-test .taken) _ (c .before .before .before .loop .inv .stamps)
+
+returns : tie.Need-returns Inv-loop μ-loop
+returns c = words-wrong (c .before .before .before .before .before .before .before .before .pre) (c .before .before .before .before .before .before .loop .s) (c .before .before .before .before .before .loop-test .taken) (denied (c .before .before .sentence-ok .ensures .tells) (c .if1 .taken))
+
+matching-requires : tie.Need-matching-requires Inv-loop μ-loop
+matching-requires c κs = ready (c .before .before .before .before .before .before .before .before .pre) (c .before .before .before .before .before .before .loop .s) (c .before .before .before .before .before .loop-test .taken) (granted (c .before .before .sentence-ok .ensures .tells) (c .if1 .left))
+
+returns-2 : tie.Need-returns-2 Inv-loop μ-loop
+returns-2 c = matching-wrong (c .before .before .before .before .before .before .before .before .before .before .pre) (c .before .before .before .before .before .before .before .before .loop .s) (c .before .before .before .before .before .before .before .loop-test .taken) (c .before .matching .ensures) (c .if2 .taken)
+
+add-s : tie.Need-add-s Inv-loop μ-loop
+add-s c = search needs
+
+loop-less : tie.Need-loop-less Inv-loop μ-loop
+loop-less c = search needs
+
+loop-again : tie.Need-loop-again Inv-loop μ-loop
+loop-again c = one-passed (c .before .before .before .before .before .before .before .before .before .before .pre) (c .before .before .before .before .before .before .before .before .loop .s) (c .before .before .before .before .before .before .before .loop-test .taken) _ _ (c .before .before .before .before .before .before .before .before .loop .inv) (c .before .before .before .before .sentence-ok .ensures .stamps) (granted (c .before .before .before .before .sentence-ok .ensures .tells) (c .before .before .if1 .left)) (c .before .matching .ensures) (c .if2 .left)
+
+returns-3 : tie.Need-returns-3 Inv-loop μ-loop
+returns-3 c = all-passed (c .before .before .before .pre) (c .before .loop .s) _ (c .before .loop .inv) (omega arith)
+
+pub sentences-ok-spec : {M : Type 1} → statement M
+sentences-ok-spec =
+    tie.close
+    (tie.spec
+    Inv-loop
+    μ-loop
+    loop-holds
+    mul-base
+    mul-base-2
+    add-base
+    add-old
+    mul-old
+    shared-slice-read-old
+    slice-aggregate-sentence-ok
+    sentence-ok-requires
+    returns
+    matching-requires
+    returns-2
+    add-s
+    loop-less
+    loop-again
+    returns-3)
