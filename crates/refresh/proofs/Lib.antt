@@ -1,0 +1,5 @@
+pub mod Frame
+pub mod Theories
+pub mod Trails
+pub mod Matching
+pub mod WholeNext
