@@ -1,13 +1,13 @@
 -- What a rule computes over a trail depends only on the standings of its scope's atoms: the extremes read those of the entries, the test
 -- that of the head besides, and a literal put on two trails changes their standings alike. Assumes nothing.
 use mathlib.Core.Path.{_≡_, refl, _∙_, ap, ap₂, subst, sym}
-use mathlib.Core.Bool.{Bool, true, not, cond, Bool·beq, _&&_}
+use mathlib.Core.Bool.{true, not, cond, Bool·beq, _&&_}
 use mathlib.Core.List.{List, [], _∷_}
 use Prim.Native.Nat.{ℕ}
 use lib.IntN.{ℤ, pos, negℤ}
 use lib.Dec.{eqb}
 use Rattle.numbers.specs.Extended.{Direction}
-use Rattle.meaning.specs.Meaning.{atom, truth, Entry, place, Each, Said, conflict, forced}
+use Rattle.meaning.specs.Meaning.{atom, truth, Entry, place, Each, conflict, forced}
 use Rattle.meaning.specs.Merge.{Rule, places, scope}
 use Rattle.meaning.specs.Computed.{given, starting, Standing, free, fixed, standing, reach, extreme-of, extreme, towards, compared, refuted-at, refuted, is-free, due, first-due, says}
 use Rattle.meaning.proofs.Gather.{each-map, gather-same}
@@ -17,7 +17,7 @@ use Rattle.meaning.proofs.Trails.{opposite-atom}
 abbrev pub SameStanding : List ℤ → List ℤ → ℕ → Type 0
 SameStanding t t′ a = standing t a ≡ standing t′ a
 
-each-place : (P : ℕ → Type 0) (es : List Entry) → Each P (places es) → Each (λ e. P (place e)) es
+pub each-place : (P : ℕ → Type 0) (es : List Entry) → Each P (places es) → Each (λ e. P (place e)) es
 each-place P [] h = tt
 each-place P (e ∷ es) h = (h .0, each-place P es (h .1))
 

@@ -1,18 +1,18 @@
 -- What is read off the words of one sentence is the same in two lists where its record says the same and the entries are the same: its
 -- rule, and that it is whole. Assumes nothing.
-use mathlib.Core.Path.{_≡_, refl, sym, ap, ap₂, _∙_, subst}
+use mathlib.Core.Path.{_≡_, sym, ap, ap₂, _∙_, subst}
 use mathlib.Core.Bool.{not}
 use mathlib.Core.List.{List}
 use Prim.Native.Nat.{ℕ, _+_, _*_, _-_, _/_, _%_, _<_, _≤_, min}
 use native.Mathlib.Omega.{arith}
-use lib.ListN.{length, getD, take, drop, length-take, length-drop}
+use lib.ListN.{length, take, drop, length-take, length-drop}
 use lib.Seq.{slice, ext-getD, getD-take, getD-drop}
 use lib.Dec.{T}
 use Rattle.types.specs.declared.Limits.{Limits}
 use Rattle.numbers.specs.Words.{unbias}
-use Rattle.meaning.specs.Meaning.{Entry, mixes}
+use Rattle.meaning.specs.Meaning.{mixes}
 use Rattle.meaning.specs.Merge.{Rule}
-use Rattle.area.specs.Layout.{word, tag-at, written-at, merged-at, kind-of, side-of, constant-of, entries-of, entry-at, entry-words, rule-at}
+use Rattle.area.specs.Layout.{word, tag-at, merged-at, kind-of, side-of, constant-of, entries-of, entry-at, entry-words, rule-at}
 use Rattle.area.specs.Whole.{RuleWhole}
 use Rattle.theory_check.specs.Theory.{SentenceOk}
 use Rattle.refresh.specs.Refresh.{SameRecord}

@@ -1,26 +1,25 @@
 -- A refreshed sentence matches the trail as it now is. An untouched one has the bounds, and says, what it had and said before: all its
 -- atoms stand as they stood. A renewed one has the extremes of the values, which show the trail, and is marked. Assumes nothing.
-use mathlib.Core.Path.{_≡_, refl, sym, ap, _∙_, subst}
-use mathlib.Core.Bool.{Bool, true, false, true≢false}
-use mathlib.Core.Logic.{_⊎_, inl, inr}
-use mathlib.Core.List.{List, [], _∷_}
-use Prim.Native.Nat.{ℕ, _+_, _*_, _≤_, _<_}
+use mathlib.Core.Path.{_≡_, sym, ap, _∙_, subst}
+use mathlib.Core.Bool.{false, true≢false}
+use mathlib.Core.List.{List}
+use Prim.Native.Nat.{ℕ, _≤_}
 use lib.IntN.{ℤ}
 use lib.Dec.{leb}
 use Rattle.types.specs.declared.Limits.{Limits}
 use Rattle.numbers.specs.Extended.{up, down}
 use Rattle.numbers.specs.Words.{word as word-of}
-use Rattle.meaning.specs.Meaning.{Entry, place, Each, silent}
-use Rattle.meaning.specs.Merge.{Rule, places, scope}
+use Rattle.meaning.specs.Meaning.{place, Each, silent}
+use Rattle.meaning.specs.Merge.{Rule, scope}
 use Rattle.meaning.specs.Computed.{standing, extreme, says}
 use Rattle.meaning.proofs.Gather.{each-map}
 use Rattle.meaning.proofs.Members.{each-both, places-each}
 use Rattle.meaning.proofs.Standing.{SameStanding, extreme-standing, says-standing}
 use Rattle.area.specs.Layout.{word, least-at, greatest-at, pending-at, rule-at}
-use Rattle.area.specs.Whole.{BoundsMatch, EntryWhole, RuleWhole}
+use Rattle.area.specs.Whole.{EntryWhole, RuleWhole}
 use Rattle.sentence.specs.Sentence.{Shows}
 use Rattle.whole.specs.Parts.{Matching}
-use Rattle.refresh.specs.Refresh.{Untouched, AsBefore, Renewed}
+use Rattle.refresh.specs.Refresh.{AsBefore, Renewed}
 
 -- the atoms of a whole rule are 1 to n
 scope-inside : (lim : Limits) (n : ℕ) (r : Rule) → RuleWhole lim n r → Each (λ a. (1 ≤ a) × (a ≤ n)) (scope r)

@@ -11,7 +11,7 @@ use Rattle.numbers.specs.Words.{literal-of}
 use Rattle.meaning.specs.Meaning.{atom}
 use Rattle.meaning.specs.Merge.{Rule, scope}
 use Rattle.book.specs.Rows.{Row}
-use Rattle.area.specs.Layout.{word, atoms-of, value-at, literal-at, mark-at, row-at, rows-from, value-word, record-at, rule-at}
+use Rattle.area.specs.Layout.{word, value-at, literal-at, mark-at, row-at, rows-from, value-word}
 use Rattle.area.specs.Whole.{AtomsOnce, Rising, Reasoned}
 use Rattle.sentence.specs.Sentence.{Shows, standing-word}
 use Rattle.trail_check.specs.Trail.{HeaderOk, TrailOk}

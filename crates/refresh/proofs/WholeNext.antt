@@ -1,27 +1,28 @@
 -- From a whole area to the next: where only the trail's words changed, and rightly, and every atom whose value changed is touched,
 -- refreshing leaves a whole area, of the same theory and the new rows. Assumes nothing.
-use mathlib.Core.Path.{_≡_, refl, sym, ap, ap₂, _∙_, subst}
-use mathlib.Core.Logic.{_⊎_, inl, inr, ⊎-elim}
+use mathlib.Core.Path.{_≡_, sym, ap, ap₂, _∙_, subst}
+use mathlib.Core.Logic.{_⊎_, inl, inr}
 use mathlib.Core.List.{List}
 use Prim.Native.Nat.{ℕ, _+_, _*_, _/_, _%_, _<_, _≤_}
 use native.Mathlib.Omega.{arith}
 use lib.ListN.{length, drop}
 use lib.IntN.{ℤ}
 use Rattle.types.specs.declared.Limits.{Limits}
+use Rattle.types.specs.Limits.{Fitting}
 use Rattle.meaning.specs.Meaning.{Each}
 use Rattle.meaning.specs.Merge.{Rule, scope}
-use Rattle.meaning.specs.Computed.{standing, says}
+use Rattle.meaning.specs.Computed.{standing}
 use Rattle.book.specs.Rows.{Row, trail}
 use Rattle.book.specs.Book.{Counters}
-use Rattle.area.specs.Layout.{word, atoms-of, sentences-of, length-of, level-of, rows-from, rows-of, record-at, rule-at, rules-from, theory-of, entries-before, need-of}
-use Rattle.area.specs.Whole.{Whole, Reasoned, BoundsMatch}
+use Rattle.area.specs.Layout.{word, atoms-of, sentences-of, level-of, rows-from, rows-of, record-at, rules-from, theory-of, entries-before, need-of}
+use Rattle.area.specs.Whole.{Whole, Reasoned}
 use Rattle.trail_check.specs.Trail.{HeaderOk, TrailOk}
 use Rattle.trail_check.proofs.Shown.{shows}
 use Rattle.theory_check.specs.Theory.{PlacesOk}
 use Rattle.whole.specs.Parts.{counters, Matching, SentenceRight, AllRight}
 use Rattle.whole.proofs.Join.{Parts, parts, joined}
-use Rattle.refresh.specs.Refresh.{SameRecord, Untouched, AsBefore, Renewed, SentenceRefreshed, Refreshed}
-use Rattle.refresh.proofs.Frame.{drop-same, same-record, record-through, rule-same}
+use Rattle.refresh.specs.Refresh.{Refreshable, Untouched, AsBefore, Renewed, Refreshed}
+use Rattle.refresh.proofs.Frame.{drop-same, same-record, record-through}
 use Rattle.refresh.proofs.Theories.{SameTheory, rule-stays, sentence-stays, rules-stay, before-stays, places-stay}
 use Rattle.refresh.proofs.Trails.{header-stays, rows-stay, trail-stays, reason-stays}
 use Rattle.refresh.proofs.Matching.{untouched-matches, renewed-matches}
@@ -63,6 +64,33 @@ joined-at lim w len level n S e f h p =
     subst (λ (k : ℕ). PartsAt lim w len level k (sentences-of w)) (sym e) (subst (λ (k : ℕ). PartsAt lim w len level n k) (sym f) p) in
     joined lim w len level (record { header = h; trail-ok = q .trail-ok; places = q .places; sentences = q .sentences; reasons = q .reasons })
 
+-- ---- a whole area whose words behind the trail stay: its theory is the same and can be refreshed
+
+module _ (lim : Limits) (w₀ w : List ℕ) (c₀ : Counters) (whole : Whole lim w₀ c₀) (size : length w ≡ length w₀)
+    (rest : (i : ℕ) → 4 * atoms-of w₀ ≤ i → word w i ≡ word w₀ i) where
+  before : Parts lim w₀ (c₀ .length-is) (c₀ .level-is)
+  before = parts lim w₀ (c₀ .length-is) (c₀ .level-is) whole
+
+  theory-kept : SameTheory w₀ w (atoms-of w₀) (sentences-of w₀)
+  theory-kept = record {
+    size = size;
+    records = λ s h. same-record w₀ w (record-at (atoms-of w₀) s) (λ i l u. rest i (omega arith)) (before .sentences s h .words .tag);
+    behind = λ i l. rest i (omega arith);
+  }
+
+  pub refreshable : Fitting lim → (touched : List ℕ) → length touched ≡ 4097 → Refreshable lim w (atoms-of w₀) (sentences-of w₀) touched
+  refreshable fitting touched table = record {
+    fitting = fitting;
+    atoms-low = whole .theory .atoms-low;
+    atoms-high = whole .theory .atoms-high;
+    sentences = whole .theory .sentences;
+    places = places-stay theory-kept lim (before .places);
+    each = λ s h. sentence-stays theory-kept lim s h (before .sentences s h .words);
+    table = table;
+  }
+
+-- ---- and refreshed
+
 module _ (lim : Limits) (w₀ w w′ : List ℕ) (c₀ : Counters) (len level : ℕ) (touched : List ℕ)
     (whole : Whole lim w₀ c₀) (changed : TrailChanged lim w₀ w len level touched) (done : Refreshed w w′ (atoms-of w₀) (sentences-of w₀) touched) where
   abbrev n : ℕ
@@ -71,8 +99,8 @@ module _ (lim : Limits) (w₀ w w′ : List ℕ) (c₀ : Counters) (len level : 
   abbrev S : ℕ
   S = sentences-of w₀
 
-  before : Parts lim w₀ (c₀ .length-is) (c₀ .level-is)
-  before = parts lim w₀ (c₀ .length-is) (c₀ .level-is) whole
+  old-parts : Parts lim w₀ (c₀ .length-is) (c₀ .level-is)
+  old-parts = before lim w₀ w c₀ whole (changed .size) (changed .rest)
 
   first : word w′ 0 ≡ word w 0
   first = done .front 0 (omega (arith, whole .theory .atoms-low))
@@ -82,11 +110,8 @@ module _ (lim : Limits) (w₀ w w′ : List ℕ) (c₀ : Counters) (len level : 
 
   -- ---- the theory stays: from w₀ to w all its words, and from w to w′ what each record says
 
-  kept : (s : ℕ) → s < S → SameRecord w₀ w (record-at n s)
-  kept s h = same-record w₀ w (record-at n s) (λ i l u. changed .rest i (omega arith)) (before .sentences s h .words .tag)
-
   same-first : SameTheory w₀ w n S
-  same-first = record { size = changed .size; records = kept; behind = λ i l. changed .rest i (omega arith) }
+  same-first = theory-kept lim w₀ w c₀ whole (changed .size) (changed .rest)
 
   same-next : SameTheory w w′ n S
   same-next = record { size = done .size; records = λ s h. done .each s h .same; behind = done .behind }
@@ -94,7 +119,7 @@ module _ (lim : Limits) (w₀ w w′ : List ℕ) (c₀ : Counters) (len level : 
   same : SameTheory w₀ w′ n S
   same = record {
     size = done .size ∙ changed .size;
-    records = λ s h. record-through w₀ w w′ (record-at n s) (kept s h) (done .each s h .same);
+    records = λ s h. record-through w₀ w w′ (record-at n s) (same-first .records s h) (done .each s h .same);
     behind = λ i l. done .behind i l ∙ changed .rest i (omega arith);
   }
 
@@ -121,7 +146,7 @@ module _ (lim : Limits) (w₀ w w′ : List ℕ) (c₀ : Counters) (len level : 
     where
       go : (Untouched w n S (record-at n s) touched × AsBefore w w′ (record-at n s)) ⊎ Renewed w w′ n S (record-at n s) → Matching w′ n S (record-at n s) new
       go (inl p) =
-          untouched-matches n touched old new (changed .standings) lim w₀ w′ S (record-at n s) (rule-stays same s h) (before .sentences s h .words .rule)
+          untouched-matches n touched old new (changed .standings) lim w₀ w′ S (record-at n s) (rule-stays same s h) (old-parts .sentences s h .words .rule)
           (subst (λ (r : Rule). Each (λ a. word touched a ≡ 0) (scope r)) (rule-stays same-first s h) (p .0)) (as-before s (p .1)) (matched s h)
       go (inr r) = renewed-matches w w′ n S (record-at n s) new (rule-stays same-next s h) (shows (changed .trail-ok)) r
 
@@ -131,7 +156,7 @@ module _ (lim : Limits) (w₀ w w′ : List ℕ) (c₀ : Counters) (len level : 
   all-right : AllRight lim w′ n S len
   all-right s h =
       subst (λ (rs : List Row). SentenceRight lim w′ n S (record-at n s) (trail rs)) (sym rows-new)
-      (record { words = sentence-stays same lim s h (before .sentences s h .words); matching = matches s h })
+      (record { words = sentence-stays same lim s h (old-parts .sentences s h .words); matching = matches s h })
 
   -- ---- word 0
 
@@ -149,7 +174,7 @@ module _ (lim : Limits) (w₀ w w′ : List ℕ) (c₀ : Counters) (len level : 
       joined-at lim w′ len level n S atoms-new sentences-new header-new
       (record {
         trail-ok = trail-stays w w′ n (done .front) len level few (changed .trail-ok);
-        places = places-stay same lim (before .places);
+        places = places-stay same lim (old-parts .places);
         sentences = all-right;
         reasons = λ i l. reason-stays w w′ n (done .front) S i same-next (omega arith) (changed .reasons i l);
       })
