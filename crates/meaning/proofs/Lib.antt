@@ -6,6 +6,7 @@ pub mod Gather
 pub mod Extremes
 pub mod Verdicts
 pub mod Says
+pub mod Standing
 pub mod Members
 pub mod MergingLength
 pub mod MergingTurned

@@ -1,0 +1,110 @@
+-- What is read off the words of one sentence is the same in two lists where its record says the same and the entries are the same: its
+-- rule, and that it is whole. Assumes nothing.
+use mathlib.Core.Path.{_≡_, sym, ap, ap₂, _∙_, subst}
+use mathlib.Core.Bool.{not}
+use mathlib.Core.List.{List}
+use Prim.Native.Nat.{ℕ, _+_, _*_, _-_, _/_, _%_, _<_, _≤_, min}
+use native.Mathlib.Omega.{arith}
+use lib.ListN.{length, take, drop, length-take, length-drop}
+use lib.Seq.{slice, ext-getD, getD-take, getD-drop}
+use lib.Dec.{T}
+use Rattle.types.specs.declared.Limits.{Limits}
+use Rattle.numbers.specs.Words.{unbias}
+use Rattle.meaning.specs.Meaning.{mixes}
+use Rattle.meaning.specs.Merge.{Rule}
+use Rattle.area.specs.Layout.{word, tag-at, merged-at, kind-of, side-of, constant-of, entries-of, entry-at, entry-words, rule-at}
+use Rattle.area.specs.Whole.{RuleWhole}
+use Rattle.theory_check.specs.Theory.{SentenceOk}
+use Rattle.refresh.specs.Refresh.{SameRecord}
+
+-- ---- lists with the same words from k on
+
+module _ (w w′ : List ℕ) (k : ℕ) (size : length w′ ≡ length w) (behind : (i : ℕ) → k ≤ i → word w′ i ≡ word w i) where
+  pub drop-same : drop k w′ ≡ drop k w
+  drop-same =
+      ext-getD 0 (drop k w′) (drop k w)
+      (length-drop k w′ ∙ ap {A = ℕ} (λ m. m - k) size ∙ sym (length-drop k w))
+      (λ i l. getD-drop k w′ i 0 ∙ behind (k + i) (omega arith) ∙ sym (getD-drop k w i 0))
+
+  pub slice-same : (f t : ℕ) → k ≤ f → slice f t w′ ≡ slice f t w
+  slice-same f t h =
+      ext-getD 0 (slice f t w′) (slice f t w)
+      (length-drop f (take t w′) ∙ ap {A = ℕ} (λ m. m - f) (length-take t w′ ∙ ap {A = ℕ} (min t) size ∙ sym (length-take t w)) ∙ sym (length-drop f (take t w)))
+      (λ i l.
+      let m : f + i < t = omega (arith, length-drop f (take t w′), length-take t w′) in
+      getD-drop f (take t w′) i 0 ∙ getD-take t w′ (f + i) 0 m ∙ behind (f + i) (omega arith) ∙ sym (getD-take t w (f + i) 0 m) ∙ sym (getD-drop f (take t w) i 0))
+
+-- ---- the sentence at b
+
+-- the record of words that do not change
+pub same-record : (w w′ : List ℕ) (b : ℕ) → ((i : ℕ) → b ≤ i → i < b + 8 → word w′ i ≡ word w i) → tag-at w b < 32 → SameRecord w w′ b
+same-record w w′ b h low =
+    let e = h (b + 1) (omega arith) (omega arith) in
+    record {
+      head = h b (omega arith) (omega arith);
+      tag = ap {A = ℕ} (λ x. x % 16) e;
+      tag-low = omega arith;
+      bound = h (b + 2) (omega arith) (omega arith);
+      constant = h (b + 3) (omega arith) (omega arith);
+      before = h (b + 6) (omega arith) (omega arith);
+      counts = h (b + 7) (omega arith) (omega arith);
+    }
+
+-- what says the same of words that say the same
+pub record-through : (w w′ w″ : List ℕ) (b : ℕ) → SameRecord w w′ b → SameRecord w′ w″ b → SameRecord w w″ b
+record-through w w′ w″ b p q = record {
+  head = q .head ∙ p .head;
+  tag = q .tag ∙ p .tag;
+  tag-low = q .tag-low;
+  bound = q .bound ∙ p .bound;
+  constant = q .constant ∙ p .constant;
+  before = q .before ∙ p .before;
+  counts = q .counts ∙ p .counts;
+}
+
+-- the rule from its words
+abbrev rule-from : ℕ → ℕ → ℕ → ℕ → ℕ → ℕ → List ℕ → Rule
+rule-from head kind side bound constant counts words = record {
+  head = head;
+  kind = kind-of kind;
+  side = side-of side;
+  bound = unbias bound;
+  set = record { constant = constant-of (kind-of kind) constant; entries = entries-of words };
+  written = counts % 65536;
+}
+
+module _ (w w′ : List ℕ) (n S b : ℕ) (size : length w′ ≡ length w) (same : SameRecord w w′ b) (behind : (i : ℕ) → 4 * n + 8 * S ≤ i → word w′ i ≡ word w i) where
+  same-kind : tag-at w′ b % 8 ≡ tag-at w b % 8
+  same-kind = omega (arith, same .tag)
+
+  same-side : tag-at w′ b / 8 % 2 ≡ tag-at w b / 8 % 2
+  same-side = omega (arith, same .tag)
+
+  pub same-start : entry-at w′ n S b ≡ entry-at w n S b
+  same-start = ap {A = ℕ} (λ x. 4 * n + 8 * S + 2 * x) (same .before)
+
+  same-words : entry-words w′ (entry-at w′ n S b) (merged-at w′ b) ≡ entry-words w (entry-at w n S b) (merged-at w b)
+  same-words =
+      ap₂ {A = ℕ} {B = ℕ} (λ at c. entry-words w′ at (c / 65536)) same-start (same .counts)
+      ∙ slice-same w w′ (4 * n + 8 * S) size behind (entry-at w n S b) (entry-at w n S b + 2 * merged-at w b) (omega arith)
+
+  pub rule-same : rule-at w′ n S b ≡ rule-at w n S b
+  rule-same =
+      ap (λ (x : ℕ). rule-from x (tag-at w′ b % 8) (tag-at w′ b / 8 % 2) (word w′ (b + 2)) (word w′ (b + 3)) (word w′ (b + 7)) (entry-words w′ (entry-at w′ n S b) (merged-at w′ b))) (same .head)
+      ∙ ap (λ (x : ℕ). rule-from (word w b) x (tag-at w′ b / 8 % 2) (word w′ (b + 2)) (word w′ (b + 3)) (word w′ (b + 7)) (entry-words w′ (entry-at w′ n S b) (merged-at w′ b))) same-kind
+      ∙ ap (λ (x : ℕ). rule-from (word w b) (tag-at w b % 8) x (word w′ (b + 2)) (word w′ (b + 3)) (word w′ (b + 7)) (entry-words w′ (entry-at w′ n S b) (merged-at w′ b))) same-side
+      ∙ ap (λ (x : ℕ). rule-from (word w b) (tag-at w b % 8) (tag-at w b / 8 % 2) x (word w′ (b + 3)) (word w′ (b + 7)) (entry-words w′ (entry-at w′ n S b) (merged-at w′ b))) (same .bound)
+      ∙ ap (λ (x : ℕ). rule-from (word w b) (tag-at w b % 8) (tag-at w b / 8 % 2) (word w (b + 2)) x (word w′ (b + 7)) (entry-words w′ (entry-at w′ n S b) (merged-at w′ b))) (same .constant)
+      ∙ ap (λ (x : ℕ). rule-from (word w b) (tag-at w b % 8) (tag-at w b / 8 % 2) (word w (b + 2)) (word w (b + 3)) x (entry-words w′ (entry-at w′ n S b) (merged-at w′ b))) (same .counts)
+      ∙ ap (λ (x : List ℕ). rule-from (word w b) (tag-at w b % 8) (tag-at w b / 8 % 2) (word w (b + 2)) (word w (b + 3)) (word w (b + 7)) x) same-words
+
+  pub sentence-same : (lim : Limits) → SentenceOk lim w n S b → SentenceOk lim w′ n S b
+  sentence-same lim o = record {
+    kind = omega (arith, same-kind, o .kind);
+    tag = same .tag-low;
+    rule = subst (RuleWhole lim n) (sym rule-same) (o .rule);
+    constant = λ m. same .constant ∙ o .constant (subst (λ (x : ℕ). T (not (mixes (kind-of x)))) same-kind m);
+    unused = λ i l h.
+        let c = same .counts in
+        behind (entry-at w′ n S b + i) (omega arith) ∙ ap {A = ℕ} (λ x. word w (x + i)) same-start ∙ o .unused i (omega arith) (omega arith);
+  }

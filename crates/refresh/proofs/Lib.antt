@@ -1,0 +1,8 @@
+pub mod Frame
+pub mod Theories
+pub mod Trails
+pub mod Touching
+pub mod Renewing
+pub mod Passing
+pub mod Matching
+pub mod WholeNext
