@@ -1,9 +1,8 @@
 -- Rows above a level taken off one by one from the last: what holds at each turn, at its start, from turn to turn and at its end. Levels
 -- rise along the trail, so the first row from the end that is not above the level ends it. Assumes nothing.
-use mathlib.Core.Path.{_≡_, refl, sym, _∙_, ap, subst}
+use mathlib.Core.Path.{_≡_, refl, sym, _∙_, ap}
 use mathlib.Core.Bool.{cond}
-use mathlib.Core.Logic.{_⊎_, ⊎-elim}
-use mathlib.Core.List.{List, _∷_}
+use mathlib.Core.List.{List}
 use Prim.Native.Nat.{ℕ, _+_, _-_, _*_, _/_, _%_, _<_, _≤_}
 use native.Mathlib.Omega.{arith}
 use lib.ListN.{length, length-set, set}
@@ -23,6 +22,9 @@ use Rattle.step.proofs.TakenOff.{taken-off, last-low, last-high, off-si
 
 -- `left` rows are left, and what is to be left of them is what is to be left of all
 pub record Cutting (w w′ : List ℕ) (n len level k left : ℕ) (touched : List ℕ) : Type 0 where
+  pub fits : len ≤ n
+  pub atoms : n ≤ 4096
+  pub words : 4 * n ≤ length w
   pub size : length w′ ≡ length w
   pub few : left ≤ len
   pub rows : up-to k (rows-from w′ n left) ≡ up-to k (rows-from w n len)
@@ -34,9 +36,12 @@ pub record Cutting (w w′ : List ℕ) (n len level k left : ℕ) (touched : Lis
   pub table : length touched ≡ 4097
   pub values : (a : ℕ) → 1 ≤ a → a ≤ n → word touched a ≡ 0 → value-at w′ n a ≡ value-at w n a
 
-pub cutting-starts : (w : List ℕ) (n len level k : ℕ) (touched : List ℕ) → TrailOk w n len level → length touched ≡ 4097
-    → Cutting w w n len level k len touched
-cutting-starts w n len level k touched ok size = record {
+pub cutting-starts : (w : List ℕ) (n len level k : ℕ) (touched : List ℕ) → len ≤ n → n ≤ 4096 → 4 * n ≤ length w → TrailOk w n len level
+    → length touched ≡ 4097 → Cutting w w n len level k len touched
+cutting-starts w n len level k touched fits atoms words ok size = record {
+  fits = fits;
+  atoms = atoms;
+  words = words;
   size = refl;
   few = omega arith;
   rows = refl;
@@ -50,26 +55,31 @@ cutting-starts w n len level k touched ok size = record {
 }
 
 module _ (w w′ : List ℕ) (n len level k left : ℕ) (touched : List ℕ) (c : Cutting w w′ n len level k left touched) where
-  -- a row above k goes
-  module _ (some : 0 < left) (above : k < mark-at w′ n (left - 1) % 65536) (fits : len ≤ n) (atoms : n ≤ 4096) (words : 4 * n ≤ length w) where
+  module _ (some : 0 < left) where
     abbrev last : ℕ
     last = literal-at w′ n (left - 1) / 2
 
     fewer : left ≤ n
-    fewer = omega (arith, c .few)
+    fewer = omega (arith, c .few, c .fits)
 
     room : 4 * n ≤ length w′
-    room = omega (arith, c .size)
+    room = omega (arith, c .size, c .words)
 
-    rows-less : up-to k (rows-from (taken-off w′ n (left - 1)) n (left - 1)) ≡ up-to k (rows-from w n len)
-    rows-less =
+    pub literal-there : 2 * n + (left - 1) < length w′
+    literal-there = omega (arith, fewer, room)
+
+    pub row-within : (1 ≤ last) × (last ≤ n)
+    row-within = (last-low w′ n left level (c .trail-ok) some fewer room, last-high w′ n left level (c .trail-ok) some fewer room)
+
+    rows-less : k < mark-at w′ n (left - 1) % 65536 → up-to k (rows-from (taken-off w′ n (left - 1)) n (left - 1)) ≡ up-to k (rows-from w n len)
+    rows-less above =
         ap (up-to k) (off-rows w′ n left level (c .trail-ok) some fewer room)
         ∙ sym (up-to-less k (row-at w′ n (left - 1)) (rows-from w′ n (left - 1)) above)
         ∙ ap (up-to k) (sym (rows-last w′ n left some))
         ∙ c .rows
 
     touched-last : word (set touched last 1) last ≡ 1
-    touched-last = getD-set-same touched last 1 0 (omega (arith, c .table, last-high w′ n left level (c .trail-ok) some fewer room))
+    touched-last = getD-set-same touched last 1 0 (omega (arith, c .table, c .atoms, row-within .1))
 
     values-less : (a : ℕ) → 1 ≤ a → a ≤ n → word (set touched last 1) a ≡ 0 → value-at (taken-off w′ n (left - 1)) n a ≡ value-at w n a
     values-less a l h e =
@@ -77,16 +87,20 @@ module _ (w w′ : List ℕ) (n len level k left : ℕ) (touched : List ℕ) (c 
         (λ q. let t : word (set touched last 1) a ≡ 1 = ap {A = ℕ} (word (set touched last 1)) q ∙ touched-last in absurd (omega arith))
         (λ d. off-value w′ n left level (c .trail-ok) some fewer room a l h d ∙ c .values a l h (sym (getD-set-other touched last a 1 0 d) ∙ e))
 
-    pub cutting-goes-on : Cutting w (taken-off w′ n (left - 1)) n len level k (left - 1) (set touched last 1)
-    cutting-goes-on = record {
+    -- a row above k goes
+    pub cutting-goes-on : k < mark-at w′ n (left - 1) % 65536 → Cutting w (taken-off w′ n (left - 1)) n len level k (left - 1) (set touched last 1)
+    cutting-goes-on above = record {
+      fits = c .fits;
+      atoms = c .atoms;
+      words = c .words;
       size = off-size w′ n left level (c .trail-ok) some fewer room ∙ c .size;
       few = omega (arith, c .few);
-      rows = rows-less;
+      rows = rows-less above;
       trail-ok = off-trail w′ n left level (c .trail-ok) some fewer room;
       first = off-first w′ n left level (c .trail-ok) some fewer room ∙ c .first;
       behind = λ i l. off-behind w′ n left level (c .trail-ok) some fewer room i l ∙ c .behind i l;
-      literals = λ i l. off-literal w′ n left level (c .trail-ok) some fewer room i (omega arith) (omega arith) ∙ c .literals i (omega arith);
-      marks = λ i l. off-mark w′ n left level (c .trail-ok) some fewer room i (omega arith) (omega arith) ∙ c .marks i (omega arith);
+      literals = λ i l. off-literal w′ n left level (c .trail-ok) some fewer room i (omega (arith, fewer)) (omega arith) ∙ c .literals i (omega arith);
+      marks = λ i l. off-mark w′ n left level (c .trail-ok) some fewer room i (omega (arith, fewer)) (omega arith) ∙ c .marks i (omega arith);
       table = length-set touched last 1 ∙ c .table;
       values = values-less;
     }

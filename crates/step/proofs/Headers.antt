@@ -9,9 +9,9 @@ use lib.Seq.{getD-set-same, getD-set-other}
 use Rattle.types.specs.declared.Limits.{Limits}
 use Rattle.types.specs.Limits.{Fitting}
 use Rattle.book.specs.Rows.{Row}
-use Rattle.area.specs.Layout.{word, atoms-of, sentences-of, length-of, level-of, value-at, literal-at, mark-at, rows-from, value-word}
+use Rattle.area.specs.Layout.{word, atoms-of, sentences-of, length-of, level-of, rows-from, value-word}
 use Rattle.area.specs.Whole.{AtomsOnce, Rising}
-use Rattle.trail_check.specs.Trail.{HeaderOk, TrailOk}
+use Rattle.trail_check.specs.Trail.{TrailOk}
 use Rattle.step.specs.Step.{Standing, Cut}
 use Rattle.step.specs.Header.{header-word}
 use Rattle.step.proofs.Fields.{atoms-field, sentences-field, length-field, level-field}
@@ -32,7 +32,6 @@ pub record Headed (w w′ : List ℕ) (n len level : ℕ) : Type 0 where
 
 pub header-set : (w : List ℕ) (n len level : ℕ) → 1 ≤ length w → n < 65536 → len < 65536 → Headed w (headed w n len level) n len level
 header-set w n len level some a c =
-    let S : ℕ = sentences-of w in
     let b : sentences-of w < 65536 = omega arith in
     let e : word (headed w n len level) 0 ≡ header-word n (sentences-of w) len level = getD-set-same w 0 (header-word n (sentences-of w) len level) 0 (omega arith) in
     record {

@@ -36,7 +36,7 @@ record Changed (w w′ : List ℕ) (n len literal mark : ℕ) : Type 0 where
 
 -- a trail with one row more
 pub record Grown (lim : Limits) (w w′ : List ℕ) (n len level literal mark : ℕ) : Type 0 where
-  pub standing-words : Standing lim w′ n (len + 1) level
+  pub stands : Standing lim w′ n (len + 1) level
   pub rows : rows-from w′ n (len + 1) ≡ row (literal-of literal) level (mark / 65536 % 65536) ∷ rows-from w n len
   pub place : place-at w′ n len ≡ mark / 4294967296
   pub value : value-at w′ n (literal / 2) ≡ 1 + 2 * len + literal % 2
@@ -54,13 +54,12 @@ module _ (lim : Limits) (w : List ℕ) (n len level literal : ℕ) (s : Standing
   once-more : (v k : ℕ) → AtomsOnce n (row (literal-of literal) v k ∷ rows-from w n len)
   once-more v k =
       let e : atom (literal-of literal) ≡ literal / 2 = atom-of literal in
-      let low : 1 ≤ literal / 2 = omega (arith, p .low) in
-      (
+      let low : 1 ≤ literal / 2 = omega (arith, p .low) in (
         (
           omega arith,
           omega (arith, p .high),
           zero-absent (rows-from w n len) (atom (literal-of literal))
-          (ap {A = ℕ} (value-word (rows-from w n len)) e ∙ sym (s .trail-ok .values (literal / 2) low (p .high)) ∙ p .free-atom),
+              (ap {A = ℕ} (value-word (rows-from w n len)) e ∙ sym (s .trail-ok .values (literal / 2) low (p .high)) ∙ p .free-atom),
         ),
         s .trail-ok .atoms,
       )
@@ -198,7 +197,7 @@ module _ (lim : Limits) (w : List ℕ) (n len level literal : ℕ) (s : Standing
 
     pub put-stands : Grown lim w w′ n len level literal mark
     put-stands = record {
-      standing-words = standing-more;
+      stands = standing-more;
       rows = rows-more;
       place = ap {A = ℕ} (λ x. x / 4294967296) (c .marked);
       value = c .value;

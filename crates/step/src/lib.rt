@@ -4,7 +4,8 @@ ghost use Prim.Native.Nat.{_<_, _≤_};
 ghost use lib.ListN.{length, set};
 ghost use Rattle.area.specs.Layout.{sentences-of, level-of};
 ghost use Rattle.step.specs.Step.{put-on, Puttable, Cut};
-ghost use Rattle.step.specs.Header.{header-word, Stands};
+ghost use Rattle.step.specs.Stands.{Stands};
+ghost use Rattle.step.specs.Header.{header-word};
 
 // A literal of an open atom goes on the trail, with its level, reason and place in `mark`.
 pub fn put(area: &mut [u64], n: usize, len: usize, literal: u64, mark: u64)
