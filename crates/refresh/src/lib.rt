@@ -42,6 +42,7 @@ fn refresh_one(area: &mut [u64], n: usize, count: usize, base: usize, touched: &
     area[base + 1] = tag % 16 + 16;
 }
 
+// All sentences, after the values of the touched atoms changed. `touched` has a word for each atom, not 0 where its value changed.
 pub fn refresh(area: &mut [u64], n: usize, count: usize, touched: &[u64])
     requires { ⌜ ((lim : Limits) × Refreshable lim (now area) n count (now touched)) ⌝ }
     ensures { λ _. ⌜ Refreshed (now (area .entry)) (now (area .exit)) n count (now (touched .entry)) ⌝ }
