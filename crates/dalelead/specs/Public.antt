@@ -1,0 +1,30 @@
+-- What each public call promises, at the limits of document 01. No call asks anything of its caller.
+-- `w` and `w′` are the words before and after, `c` the counters that the call got.
+-- Assumes nothing.
+use mathlib.Core.List.{List}
+use Prim.Native.Nat.{ℕ}
+use lib.ListN.{length}
+use lib.IntN.{ℤ}
+use Rattle.types.specs.Limits.{base}
+use Rattle.types.specs.declared.Counters.{Counters}
+use Rattle.book.specs.Table.{give, open-level, take-back, bounds, list-trail}
+use Rattle.calls.specs.Calls.{counted, done-paper, bounds-paper, listed-paper, Answered, Acts, Lists}
+use Rattle.calls.specs.declared.Done.{Done}
+use Rattle.calls.specs.declared.Bounds.{Bounds}
+use Rattle.calls.specs.declared.Listed.{Listed}
+
+abbrev pub Gives : (w w′ : List ℕ) → Counters → ℤ → Done → Type 0
+Gives w w′ c l r = Acts base w w′ (counted c) (counted (r .counters)) (give l) (done-paper r)
+
+abbrev pub Opens : (w w′ : List ℕ) → Counters → Done → Type 0
+Opens w w′ c r = Acts base w w′ (counted c) (counted (r .counters)) open-level (done-paper r)
+
+abbrev pub TakesBack : (w w′ : List ℕ) → Counters → ℕ → Done → Type 0
+TakesBack w w′ c k r = Acts base w w′ (counted c) (counted (r .counters)) (take-back k) (done-paper r)
+
+abbrev pub ReadsBounds : (w : List ℕ) → Counters → ℕ → Bounds → Type 0
+ReadsBounds w c k r = Answered base w (counted c) (bounds k) (bounds-paper r)
+
+-- `old` and `new` are the lent list before and after
+abbrev pub ListsTrail : (w : List ℕ) → Counters → (old new : List ℤ) → Listed → Type 0
+ListsTrail w c old new r = Lists base w (counted c) (list-trail (length old)) old new (listed-paper r)
