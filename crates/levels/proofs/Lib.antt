@@ -1,0 +1,5 @@
+pub mod Acting
+pub mod Replies
+pub mod Changes
+pub mod Raising
+pub mod Lowering

@@ -1,0 +1,31 @@
+-- 9 where the check finds the area not whole, and otherwise what `open_whole` does.
+-- Assumes nothing.
+use mathlib.Core.Path.{refl}
+use borrow.Author.Needs.{needs}
+use Rattle.decide.proofs.Tells.{denied, granted}
+use Rattle.levels.proofs.Acting.{acts-broken}
+use Rattle.levels.proofs.open_within.Statement.{statement}
+use Rattle.levels.proofs.open_within.Tie as tie
+
+is-whole-requires : tie.Need-is-whole-requires
+is-whole-requires c κs = search needs
+
+same-length : tie.Need-same-length
+same-length c = search needs
+
+returns : tie.Need-returns
+returns c = acts-broken _ _ _ _ _ (denied (c .before .is-whole .ensures) (c .if1 .taken)) refl
+
+open-whole-requires : tie.Need-open-whole-requires
+open-whole-requires c κs = record { fitting = c .before .before .before .before .before .pre; whole = granted (c .before .before .is-whole .ensures) (c .before .if1 .left) }
+
+same-length-2 : tie.Need-same-length-2
+same-length-2 c = search needs
+
+returns-2 : tie.Need-returns-2
+returns-2 c = search needs
+
+pub open-within-spec : {M : Type 1} → statement M
+open-within-spec =
+    tie.close
+    (tie.spec is-whole-requires same-length returns open-whole-requires same-length-2 returns-2)
