@@ -1,0 +1,6 @@
+pub mod Signs
+pub mod Values
+pub mod Rows
+pub mod Replies
+pub mod Answers
+pub mod Meaning

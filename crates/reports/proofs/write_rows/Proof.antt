@@ -1,0 +1,96 @@
+-- The first i rows stand at the front of the list, and the rest of it is as it was (`Rows`). Assumes nothing.
+use mathlib.Core.Path.{_≡_, _∙_, subst}
+use Prim.Native.Nat.{_≤_, _-_}
+use native.Mathlib.Omega.{arith}
+use borrow.Author.Needs.{needs}
+use mir.Syntax.{w64}
+use mir.Val.{toZ, ofZ}
+use mir.ValLaws.{toZ-ofZ}
+use Rattle.reports.proofs.Rows.{Written, none-written, written-length, row-written}
+use Rattle.reports.proofs.write_rows.Statement.{statement}
+use Rattle.reports.proofs.write_rows.Tie as tie
+
+abbrev Inv-loop : tie.InvT-loop
+Inv-loop area n rows list₀ i₀ list i = (i ≤ rows) × Written area n i list₀ list
+
+abbrev μ-loop : tie.MeasureT-loop
+μ-loop area n rows list₀ i₀ list i = rows - i
+
+loop-holds : tie.Need-loop-holds Inv-loop μ-loop
+loop-holds c = (omega arith, none-written (c .before .args .area .now) (c .before .args .n) (c .before .args .list .now))
+
+mul-literal : tie.Need-mul-literal Inv-loop μ-loop
+mul-literal c = search needs
+
+add-literal : tie.Need-add-literal Inv-loop μ-loop
+add-literal c = search needs
+
+mul-literal-2 : tie.Need-mul-literal-2 Inv-loop μ-loop
+mul-literal-2 c = search needs
+
+shared-slice-read-literal : tie.Need-shared-slice-read-literal Inv-loop μ-loop
+shared-slice-read-literal c = search needs
+
+literal-requires : tie.Need-literal-requires Inv-loop μ-loop
+literal-requires c κs = search needs
+
+mul-mark : tie.Need-mul-mark Inv-loop μ-loop
+mul-mark c = search needs
+
+add-mark : tie.Need-add-mark Inv-loop μ-loop
+add-mark c = search needs
+
+mul-mark-2 : tie.Need-mul-mark-2 Inv-loop μ-loop
+mul-mark-2 c = search needs
+
+shared-slice-read-mark : tie.Need-shared-slice-read-mark Inv-loop μ-loop
+shared-slice-read-mark c = search needs
+
+mul-write-row : tie.Need-mul-write-row Inv-loop μ-loop
+mul-write-row c = search needs
+
+write-row-requires : tie.Need-write-row-requires Inv-loop μ-loop
+write-row-requires c κs = let s = c .before .before .before .before .before .before .before in let p = c .before .before .before .before .before in
+    (omega (arith, c .before .before .before .before .loop-test .taken, p .loop .inv .0, s .pre .2, written-length (s .args .area .now) (s .args .n) (p .loop .i) (s .args .list .now) (p .loop .list) (omega arith) (p .loop .inv .1)), omega arith, omega arith)
+
+add-i : tie.Need-add-i Inv-loop μ-loop
+add-i c = search needs
+
+loop-less : tie.Need-loop-less Inv-loop μ-loop
+loop-less c = search needs
+
+loop-again : tie.Need-loop-again Inv-loop μ-loop
+loop-again c = let s = c .before .before .before .before .before .before .before .before .before in let p = c .before .before .before .before .before .before .before in
+    (omega arith, c .before .write-row .ensures ∙ row-written (s .args .area .now) (s .args .n) (p .loop .i) (s .args .list .now) (p .loop .list) (omega arith) (p .loop .inv .1) (toZ w64 (ofZ w64 (c .before .before .before .before .literal .result))) (toZ-ofZ w64 (c .before .before .before .before .literal .result) (search needs) ∙ c .before .before .before .before .literal .ensures))
+
+same-length : tie.Need-same-length Inv-loop μ-loop
+same-length c = let s = c .before .before .before in let p = c .before in
+    written-length (s .args .area .now) (s .args .n) (p .loop .i) (s .args .list .now) (p .loop .list) (omega arith) (p .loop .inv .1)
+
+returns : tie.Need-returns Inv-loop μ-loop
+returns c = let s = c .before .before .before in let p = c .before in
+    let e : p .loop .i ≡ s .args .rows = omega arith in subst (λ m. Written (s .args .area .now) (s .args .n) m (s .args .list .now) (p .loop .list)) e (p .loop .inv .1)
+
+pub write-rows-spec : {M : Type 1} → statement M
+write-rows-spec =
+    tie.close
+    (tie.spec
+    Inv-loop
+    μ-loop
+    loop-holds
+    mul-literal
+    add-literal
+    mul-literal-2
+    shared-slice-read-literal
+    literal-requires
+    mul-mark
+    add-mark
+    mul-mark-2
+    shared-slice-read-mark
+    mul-write-row
+    write-row-requires
+    add-i
+    loop-less
+    loop-again
+    same-length
+    returns)
