@@ -1,4 +1,3 @@
-pub mod Acting
 pub mod Replies
 pub mod Changes
 pub mod Raising

@@ -22,7 +22,7 @@ use Rattle.step.proofs.Headers.{headed, Headed, header-set, headed-rows, cut-st
 use Rattle.whole.specs.Parts.{counters}
 use Rattle.refresh.specs.Refresh.{Refreshable, Refreshed}
 use Rattle.refresh.proofs.WholeNext.{TrailChanged, refreshable, renewed-whole}
-use Rattle.levels.proofs.Acting.{acts-kept, acts-moved}
+use Rattle.calls.proofs.Acting.{acts-kept, acts-moved}
 use Rattle.levels.proofs.Replies.{take-back-refused, take-back-passes}
 use Rattle.levels.proofs.Changes.{whole-stands, whole-rows, reason-kept, renewed-moved}
 

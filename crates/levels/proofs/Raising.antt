@@ -23,7 +23,7 @@ use Rattle.whole.specs.Parts.{counters}
 use Rattle.refresh.specs.Refresh.{Refreshed}
 use Rattle.refresh.proofs.Frame.{same-record}
 use Rattle.refresh.proofs.WholeNext.{TrailChanged, RenewedWhole, renewed-whole}
-use Rattle.levels.proofs.Acting.{acts-kept, acts-moved}
+use Rattle.calls.proofs.Acting.{acts-kept, acts-moved}
 use Rattle.levels.proofs.Replies.{open-refused, open-passes}
 use Rattle.levels.proofs.Changes.{whole-stands, whole-rows, reason-kept, renewed-moved}
 

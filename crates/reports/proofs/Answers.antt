@@ -1,5 +1,5 @@
--- A call on a whole area answers by the table, and any other answers 9 and leaves the list; a list that is long enough holds the rows, and
--- a shorter one is left. Assumes nothing.
+-- A list call on a whole area answers by the table, and on any other 9, and leaves the list; a list that is long enough holds the rows,
+-- and a shorter one is left. Assumes nothing.
 use mathlib.Core.Path.{_≡_, refl, sym, _∙_, ap}
 use mathlib.Core.List.{List, _++_}
 use Prim.Native.Nat.{ℕ, _*_, _<_, _≤_}
@@ -8,22 +8,16 @@ use lib.ListN.{length, drop}
 use Rattle.types.specs.declared.Limits.{Limits}
 use Rattle.numbers.specs.Extended.{at}
 use Rattle.book.specs.Rows.{flat}
-use Rattle.book.specs.Table.{Call, list-trail, Answer, refused, Paper, numbers, paper, list-after, reply}
+use Rattle.book.specs.Table.{Call, list-trail, Answer, refused, numbers, paper, list-after}
 use Rattle.book.specs.Book.{Counters}
 use Rattle.area.specs.Layout.{atoms-of, length-of, rows-of}
 use Rattle.area.specs.Whole.{Whole}
 use Rattle.calls.specs.declared.Listed.{Listed}
-use Rattle.calls.specs.Calls.{area-state, listed-paper, Answered, Lists}
+use Rattle.calls.specs.Calls.{area-state, listed-paper, Lists}
+use Rattle.calls.proofs.Acting.{answered-nine, answered-whole}
 use Rattle.reports.specs.Reports.{Listing}
 use Rattle.reports.proofs.Rows.{Written, rows-size}
 use Rattle.reports.proofs.Replies.{trail-short, trail-listed}
-
-module _ (lim : Limits) (w : List ℕ) (c : Counters) (x : Call) (p : Paper) where
-  pub answered-nine : (Whole lim w c → ⊥) → p ≡ paper (refused 9 0) → Answered lim w c x p
-  answered-nine n e = record { broken = λ _. e; told = λ h. absurd (n h) }
-
-  pub answered-whole : Whole lim w c → p ≡ paper (reply (area-state lim w) x .answer) → Answered lim w c x p
-  answered-whole h e = record { broken = λ n. absurd (n h); told = λ _. e }
 
 module _ (lim : Limits) (w : List ℕ) (c : Counters) (old : List ℤ) where
   abbrev call : Call

@@ -3,7 +3,7 @@ use borrow.Author.Needs.{needs}
 use Rattle.decide.proofs.Tells.{denied, granted}
 use Rattle.book.specs.Table.{bounds}
 use Rattle.calls.specs.Calls.{counted, bounds-paper}
-use Rattle.reports.proofs.Answers.{answered-nine, answered-whole}
+use Rattle.calls.proofs.Acting.{answered-nine, answered-whole}
 use Rattle.reports.proofs.bounds_within.Statement.{statement}
 use Rattle.reports.proofs.bounds_within.Tie as tie
 

@@ -1,5 +1,5 @@
 -- The ways out of a call that may change the area: 9 where it is not whole, an answer that keeps the words, and an answer that moves them.
--- What keeps does not move, so each way has one clause to show. Assumes nothing.
+-- What keeps does not move, so each way has one clause to show. And the two ways out of a report. Assumes nothing.
 use mathlib.Core.Path.{_≡_, refl}
 use mathlib.Core.Bool.{not}
 use mathlib.Core.List.{List}
@@ -9,12 +9,18 @@ use Rattle.types.specs.declared.Limits.{Limits}
 use Rattle.book.specs.Table.{Call, refused, Paper, paper, reply}
 use Rattle.book.specs.Book.{Counters}
 use Rattle.area.specs.Whole.{Whole}
-use Rattle.calls.specs.Calls.{area-state, keeps, Moved, Acts}
+use Rattle.calls.specs.Calls.{area-state, keeps, Answered, Moved, Acts}
 
 module _ (lim : Limits) (w : List ℕ) (c : Counters) (x : Call) (p : Paper) where
+  pub answered-nine : ¬ (Whole lim w c) → p ≡ paper (refused 9 0) → Answered lim w c x p
+  answered-nine n e = record { broken = λ _. e; told = λ h. absurd (n h) }
+
+  pub answered-whole : Whole lim w c → p ≡ paper (reply (area-state lim w) x .answer) → Answered lim w c x p
+  answered-whole h e = record { broken = λ n. absurd (n h); told = λ _. e }
+
   pub acts-broken : ¬ (Whole lim w c) → p ≡ paper (refused 9 0) → Acts lim w w c c x p
   acts-broken b e = record {
-    answer = record { broken = λ _. e; told = λ h. absurd (b h) };
+    answer = answered-nine b e;
     broken = λ _. (refl, refl);
     kept = λ _ _. (refl, refl);
     moved = λ h _. absurd (b h);
@@ -22,7 +28,7 @@ module _ (lim : Limits) (w : List ℕ) (c : Counters) (x : Call) (p : Paper) whe
 
   pub acts-kept : Whole lim w c → T (keeps (area-state lim w) x) → p ≡ paper (reply (area-state lim w) x .answer) → Acts lim w w c c x p
   acts-kept h k e = record {
-    answer = record { broken = λ b. absurd (b h); told = λ _. e };
+    answer = answered-whole h e;
     broken = λ _. (refl, refl);
     kept = λ _ _. (refl, refl);
     moved = λ _ m. absurd (T-not (keeps (area-state lim w) x) m k);
@@ -31,7 +37,7 @@ module _ (lim : Limits) (w : List ℕ) (c : Counters) (x : Call) (p : Paper) whe
   pub acts-moved : (w′ : List ℕ) (c′ : Counters) → Whole lim w c → T (not (keeps (area-state lim w) x)) → p ≡ paper (reply (area-state lim w) x .answer)
       → Moved lim w w′ c′ (reply (area-state lim w) x) → Acts lim w w′ c c′ x p
   acts-moved w′ c′ h m e v = record {
-    answer = record { broken = λ b. absurd (b h); told = λ _. e };
+    answer = answered-whole h e;
     broken = λ b. absurd (b h);
     kept = λ _ k. absurd (T-not (keeps (area-state lim w) x) m k);
     moved = λ _ _. v;
