@@ -16,3 +16,4 @@ pub mod Shown
 pub mod Stored
 pub mod Turnings
 pub mod Results
+pub mod Unscanned

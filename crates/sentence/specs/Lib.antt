@@ -1,3 +1,4 @@
 pub mod Sentence
 pub mod Words
 pub mod Room
+pub mod Known

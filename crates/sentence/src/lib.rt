@@ -1,11 +1,12 @@
 // The evaluation of one stored sentence over the stored values: its extremes, and what it says first.
 ghost use mathlib.Core.Path.{_≡_};
-ghost use Prim.Native.Nat.{_<_};
-ghost use Rattle.numbers.specs.Words.{half};
+ghost use Prim.Native.Nat.{_≤_, _<_};
+ghost use Rattle.numbers.specs.Words.{half, top};
 ghost use Rattle.area.specs.Layout.{value-at, entry-words};
 ghost use Rattle.sentence.specs.Sentence.{Ready, ExtremesAre, SaidIs};
-ghost use Rattle.sentence.specs.Words.{FoldsAre, second-word, head-says, scanned, body-says};
-ghost use Rattle.sentence.specs.Room.{Entries, Rooms, Turnable};
+ghost use Rattle.sentence.specs.Words.{FoldsAre, empty-word, second-word, scanned, wanted-word};
+ghost use Rattle.sentence.specs.Room.{Entries, Rooms, Turns, Turnable};
+ghost use Rattle.sentence.specs.Known.{turns-open, head-known, body-known, KnownIs};
 
 mod steps;
 
@@ -23,12 +24,31 @@ pub enum Said {
 }
 
 // The kinds, to go by cases.
-enum Kind {
+pub enum Kind {
     Sum,
     Product,
     Count,
     Max,
     Min,
+}
+
+// Entries that are to be scanned, under a fixed head: the direction of its truth, the comparison's limit, the extreme in that direction,
+// and where the entries start.
+pub struct Body {
+    pub kind: Kind,
+    pub up: bool,
+    pub limit: u64,
+    pub extreme: u64,
+    pub start: usize,
+    pub merged: usize,
+}
+
+// What a sentence says before its entries are scanned: nothing, that it is in conflict, a forced literal of its head, or that the scan decides.
+pub enum Known {
+    Silent,
+    Conflict,
+    Forced(u64),
+    Undecided(Body),
 }
 
 // Both folds in one loop over the entries.
@@ -93,31 +113,43 @@ fn second(area: &[u64], up: bool, start: usize, count: usize, n: usize) -> u64
     next
 }
 
-// The first open entry that turns.
-fn scan(
-    area: &[u64],
-    kind: Kind,
-    up: bool,
-    limit: u64,
-    e: u64,
-    start: usize,
-    count: usize,
-    n: usize,
-) -> Said
-    requires { ⌜ Entries (now area) start count n ⌝ }
-    requires { ⌜ Turnable kind up e (value-at (now area) n) (entry-words (now area) start count) ⌝ }
-    ensures { λ r. ⌜ r ≡ scanned kind up limit e (value-at (now (area .entry)) n) (entry-words (now (area .entry)) start count) ⌝ }
+// Whether an entry of weight w, whose atom's value is v, is open and turns.
+pub fn entry_turns(body: Body, w: u64, v: u64) -> bool
+    requires { ⌜ (v ≡ 0 → Turns (body .kind) (body .up) (body .extreme) w) ⌝ }
+    ensures { λ r. ⌜ r ≡ turns-open body w v ⌝ }
 {
+    let kind = body.kind;
+    if v == 0 {
+        return steps::turn(kind, body.up, body.limit, body.extreme, w);
+    }
+    false
+}
+
+// The literal of that entry that is then forced.
+pub fn entry_wanted(body: Body, w: u64, l: u64) -> u64
+    requires { ⌜ (2 ≤ l) × (l < top) ⌝ }
+    ensures { λ r. ⌜ r ≡ wanted-word (body .up) (empty-word (body .kind)) w l ⌝ }
+{
+    let kind = body.kind;
+    steps::wanted(body.up, steps::empty(kind), w, l)
+}
+
+// The first open entry that turns.
+fn scan(area: &[u64], body: Body, n: usize) -> Said
+    requires { ⌜ Entries (now area) (body .start) (body .merged) n ⌝ }
+    requires { ⌜ Turnable (body .kind) (body .up) (body .extreme) (value-at (now area) n) (entry-words (now area) (body .start) (body .merged)) ⌝ }
+    ensures { λ r. ⌜ r ≡ scanned (body .kind) (body .up) (body .limit) (body .extreme) (value-at (now (area .entry)) n) (entry-words (now (area .entry)) (body .start) (body .merged)) ⌝ }
+{
+    let start = body.start;
+    let count = body.merged;
     let mut i: usize = 0;
     while i < count {
         let at = start + 2 * i;
         let w = area[at];
         let l = area[at + 1];
         let v = area[n - 1 + (l / 2) as usize];
-        if v == 0 {
-            if steps::turn(kind, up, limit, e, w) {
-                return Said::Forced(steps::wanted(up, steps::empty(kind), w, l));
-            }
+        if entry_turns(body, w, v) {
+            return Said::Forced(entry_wanted(body, w, l));
         }
         i += 1;
     }
@@ -135,44 +167,50 @@ fn of_body(
     start: usize,
     count: usize,
     n: usize,
-) -> Said
+) -> Known
     requires { ⌜ Entries (now area) start count n ⌝ }
-    requires { ⌜ Turnable kind up e (value-at (now area) n) (entry-words (now area) start count) ⌝ }
-    ensures { λ r. ⌜ r ≡ body-says kind up limit e o (value-at (now (area .entry)) n) (entry-words (now (area .entry)) start count) ⌝ }
+    ensures { λ r. ⌜ r ≡ body-known kind up limit e o (value-at (now (area .entry)) n) (now (area .entry)) start count ⌝ }
 {
     if !steps::keep(up, limit, e) {
-        return Said::Conflict;
+        return Known::Conflict;
     }
     if steps::keep(up, limit, o) {
-        return Said::Silent;
+        return Known::Silent;
     }
     if steps::leaves_second(kind, up) {
         if steps::keep(up, limit, second(area, up, start, count, n)) {
-            return Said::Silent;
+            return Known::Silent;
         }
     }
-    scan(area, kind, up, limit, e, start, count, n)
+    Known::Undecided(Body {
+        kind,
+        up,
+        limit,
+        extreme: e,
+        start,
+        merged: count,
+    })
 }
 
 // With the head open: whether the comparison holds, or fails, whatever comes.
-fn of_head(holds: bool, fails: bool, head: u64) -> Said
+fn of_head(holds: bool, fails: bool, head: u64) -> Known
     requires { ⌜ head < half ⌝ }
-    ensures { λ r. ⌜ r ≡ head-says holds fails head ⌝ }
+    ensures { λ r. ⌜ r ≡ head-known holds fails head ⌝ }
 {
     if holds {
-        return Said::Forced(2 * head);
+        return Known::Forced(2 * head);
     }
     if fails {
-        return Said::Forced(2 * head + 1);
+        return Known::Forced(2 * head + 1);
     }
-    Said::Silent
+    Known::Silent
 }
 
-// What that sentence says first, where its extremes are known.
-pub fn says(area: &[u64], n: usize, count: usize, base: usize, least: u64, greatest: u64) -> Said
+// What that sentence says before its entries are scanned, where its extremes are known.
+pub fn look(area: &[u64], n: usize, count: usize, base: usize, least: u64, greatest: u64) -> Known
     requires { ⌜ Ready (now area) n count base ⌝ }
     requires { ⌜ ExtremesAre (now area) n count base (record { least = least; greatest = greatest }) ⌝ }
-    ensures { λ r. ⌜ SaidIs (now (area .entry)) n count base r ⌝ }
+    ensures { λ r. ⌜ KnownIs (now (area .entry)) n count base r ⌝ }
 {
     let head = area[base];
     let tag = area[base + 1];
@@ -203,4 +241,18 @@ pub fn says(area: &[u64], n: usize, count: usize, base: usize, least: u64, great
         return of_body(area, kind, true, limit, greatest, least, start, merged, n);
     }
     of_body(area, kind, false, limit, least, greatest, start, merged, n)
+}
+
+// What that sentence says first, where its extremes are known.
+pub fn says(area: &[u64], n: usize, count: usize, base: usize, least: u64, greatest: u64) -> Said
+    requires { ⌜ Ready (now area) n count base ⌝ }
+    requires { ⌜ ExtremesAre (now area) n count base (record { least = least; greatest = greatest }) ⌝ }
+    ensures { λ r. ⌜ SaidIs (now (area .entry)) n count base r ⌝ }
+{
+    match look(area, n, count, base, least, greatest) {
+        Known::Silent => Said::Silent,
+        Known::Conflict => Said::Conflict,
+        Known::Forced(l) => Said::Forced(l),
+        Known::Undecided(body) => scan(area, body, n),
+    }
 }

@@ -1,1 +1,78 @@
 // Steps of a caller on the trail: give, open, take back.
+use calls::Done;
+use types::Counters;
+use types::Limits;
+ghost use mathlib.Core.Path.{_≡_};
+ghost use Prim.Native.Nat.{ℕ, _≤_};
+ghost use Rattle.types.specs.Limits.{Fitting};
+ghost use Rattle.numbers.specs.Words.{literal-word};
+ghost use Rattle.meaning.specs.Meaning.{atom};
+ghost use Rattle.book.specs.Table.{give};
+ghost use Rattle.calls.specs.Calls.{counted, done-paper, Acts};
+ghost use Rattle.trail.specs.Trail.{Advanceable, Advanced};
+ghost use Rattle.trail.specs.Ready.{AdvanceReady, Usable, Ready};
+
+// A literal of an open atom goes on the trail of a whole area, with its level, reason and place in `mark`; the bounds of the sentences
+// that have the atom are renewed.
+pub fn advance(area: &mut [u64], n: usize, count: usize, len: usize, literal: u64, mark: u64)
+    requires { ⌜ AdvanceReady (now area) n count len literal mark ⌝ }
+    ensures { λ _. ⌜ ((lim : Limits) (level : ℕ) → Advanceable lim (now (area .entry)) n count len level literal mark → Advanced lim (now (area .entry)) (now (area .exit)) len level literal mark) ⌝ }
+{
+    step::put(area, n, len, literal, mark);
+    let mut touched = [0u64; 4097];
+    touched[(literal / 2) as usize] = 1;
+    refresh::refresh(area, n, count, &touched);
+}
+
+// ---- give
+
+// The word of a literal of that size.
+fn word_of(literal: i64, size: u64) -> u64
+    requires { ⌜ (size ≡ atom literal) × (size ≤ 4096) ⌝ }
+    ensures { λ r. ⌜ r ≡ literal-word literal ⌝ }
+{
+    if signed::negative(literal) {
+        return 2 * size + 1;
+    }
+    2 * size
+}
+
+fn give_whole(area: &mut [u64], counters: Counters, literal: i64) -> Done
+    requires { ⌜ Ready (now area) (counted counters) ⌝ }
+    ensures { λ r. ⌜ ((lim : Limits) → Usable lim (now (area .entry)) (counted counters) → Acts lim (now (area .entry)) (now (area .exit)) (counted counters) (counted (r .counters)) (give literal) (done-paper r)) ⌝ }
+{
+    let n = (area[0] % 65536) as usize;
+    let size = signed::size(literal);
+    if size == 0 {
+        return Done { code: 10, counters };
+    }
+    if size > n as u64 {
+        return Done { code: 10, counters };
+    }
+    if area[n - 1 + size as usize] != 0 {
+        return Done { code: 11, counters };
+    }
+    let count = (area[0] / 65536 % 65536) as usize;
+    let word = word_of(literal, size);
+    let length = counters.length;
+    let level = counters.level;
+    advance(area, n, count, length as usize, word, level.0);
+    Done {
+        code: 0,
+        counters: Counters {
+            length: length + 1,
+            level,
+        },
+    }
+}
+
+// The caller's literal, put on at the current level with no reason.
+pub fn give_within(area: &mut [u64], lim: Limits, counters: Counters, literal: i64) -> Done
+    requires { ⌜ Fitting lim ⌝ }
+    ensures { λ r. ⌜ Acts lim (now (area .entry)) (now (area .exit)) (counted counters) (counted (r .counters)) (give literal) (done-paper r) ⌝ }
+{
+    if !whole::is_whole(area, lim, counters.length, counters.level.0) {
+        return Done { code: 9, counters };
+    }
+    give_whole(area, counters, literal)
+}

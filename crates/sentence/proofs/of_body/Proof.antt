@@ -1,7 +1,6 @@
 -- `sentence::of_body` meets its contract: it takes the tests in the definition's order. Assumes nothing.
 use mathlib.Core.Path.{_≡_, sym, ap, _∙_}
-use mathlib.Core.Bool.{true, false, _&&_}
-use mathlib.Core.Logic.{⊎-elim}
+use mathlib.Core.Bool.{true, false}
 use borrow.Author.Tests.{not-true, not-false}
 use borrow.Author.Needs.{needs}
 use Rattle.area.specs.Layout.{value-at, entry-words}
@@ -53,22 +52,27 @@ returns-3 c =
     ap (keeps (a .up) (a .limit)) (sym (c .before .before .second .ensures)) ∙ sym (c .before .keep3 .ensures) ∙ c .if4 .taken in
     rw (held, within, leaves, keeping)
 
-scan-requires : tie.Need-scan-requires
-scan-requires c κs = search needs
-
 returns-4 : tie.Need-returns-4
 returns-4 c =
-    let a = c .before .before .before .before .before .before .before .before .args in
+    let a = c .before .before .before .before .before .before .before .before .before .before .args in
     let v = value-at (a .area .now) (a .n) in
     let words = entry-words (a .area .now) (a .start) (a .count) in
-    let held : keeps (a .up) (a .limit) (a .e) ≡ true = sym (c .before .before .before .before .before .before .keep .ensures) ∙ not-false (c .before .before .before .before .before .before .keep .result) (c .before .before .before .before .before .if1 .left) in
-    let within : keeps (a .up) (a .limit) (a .o) ≡ false = sym (c .before .before .before .before .keep2 .ensures) ∙ c .before .before .before .if2 .left in
-    let passed : (leaves-second (a .kind) (a .up) && keeps (a .up) (a .limit) (second-word (a .up) v words)) ≡ false =
-    ⊎-elim
-    (λ x. rw (sym (c .before .before .leaves-second .ensures) ∙ x .0 .taken) (ap (keeps (a .up) (a .limit)) (sym (x .1 .ensures)) ∙ sym (x .2 .ensures) ∙ x .3 .left))
-    (λ x. rw (sym (c .before .before .leaves-second .ensures) ∙ x .left))
-    (c .before .if3 .came) in
-    rw (held, within, passed) (c .scan .ensures)
+    let held : keeps (a .up) (a .limit) (a .e) ≡ true = sym (c .before .before .before .before .before .before .before .before .keep .ensures) ∙ not-false (c .before .before .before .before .before .before .before .before .keep .result) (c .before .before .before .before .before .before .before .if1 .left) in
+    let within : keeps (a .up) (a .limit) (a .o) ≡ false = sym (c .before .before .before .before .before .before .keep2 .ensures) ∙ c .before .before .before .before .before .if2 .left in
+    let leaves : leaves-second (a .kind) (a .up) ≡ true = sym (c .before .before .before .before .leaves-second .ensures) ∙ c .before .before .before .if3 .taken in
+    let losing : keeps (a .up) (a .limit) (second-word (a .up) v words) ≡ false =
+    ap (keeps (a .up) (a .limit)) (sym (c .before .before .second .ensures)) ∙ sym (c .before .keep3 .ensures) ∙ c .if4 .left in
+    rw (held, within, leaves, losing)
+
+returns-5 : tie.Need-returns-5
+returns-5 c =
+    let a = c .before .before .before .before .before .before .before .args in
+    let v = value-at (a .area .now) (a .n) in
+    let words = entry-words (a .area .now) (a .start) (a .count) in
+    let held : keeps (a .up) (a .limit) (a .e) ≡ true = sym (c .before .before .before .before .before .keep .ensures) ∙ not-false (c .before .before .before .before .before .keep .result) (c .before .before .before .before .if1 .left) in
+    let within : keeps (a .up) (a .limit) (a .o) ≡ false = sym (c .before .before .before .keep2 .ensures) ∙ c .before .before .if2 .left in
+    let leaves : leaves-second (a .kind) (a .up) ≡ false = sym (c .before .leaves-second .ensures) ∙ c .if3 .left in
+    rw (held, within, leaves)
 
 pub of-body-spec : {M : Type 1} → statement M
 of-body-spec =
@@ -82,5 +86,5 @@ of-body-spec =
     second-requires
     keep-requires-3
     returns-3
-    scan-requires
-    returns-4)
+    returns-4
+    returns-5)

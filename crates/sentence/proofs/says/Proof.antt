@@ -1,261 +1,58 @@
--- `sentence::says` meets its contract: the extremes that it is given are the folds, so that each branch is one of the answers of
--- Results.antt. Assumes nothing.
-use mathlib.Core.Path.{_≡_, refl, sym, ap, _∙_, subst}
-use mathlib.Core.Bool.{true, false, not}
-use mathlib.Core.Logic.{⊎-elim}
-use Prim.Native.Nat.{_+_, _%_}
-use native.Mathlib.Omega.{arith}
-use lib.Dec.{eqb}
+-- `sentence::says` meets its contract: what is known without a scan says what the sentence says, and where it is undecided the scan
+-- decides. Assumes nothing.
+use mathlib.Core.Path.{sym, subst}
 use borrow.Author.Needs.{needs}
-use Rattle.area.specs.Layout.{word, entry-at, merged-at, entry-words, value-at}
 use Rattle.sentence.specs.Sentence.{SaidIs}
-use Rattle.sentence.specs.Words.{limit-word, upwards, keeps, head-says, body-says}
-use Rattle.sentence.proofs.Stored.{upper-in, bound-high, entries-at}
-use Rattle.sentence.proofs.Results.{turnable-at, said-open, said-fixed}
+use Rattle.sentence.proofs.Unscanned.{known-so}
 use Rattle.sentence.proofs.says.Statement.{statement}
 use Rattle.sentence.proofs.says.Tie as tie
 
-mul-head : tie.Need-mul-head
-mul-head c = search needs
+look-requires : tie.Need-look-requires
+look-requires c κs = search needs
 
-shared-slice-read-head : tie.Need-shared-slice-read-head
-shared-slice-read-head c = search needs
+enum-told : tie.Need-enum-told
+enum-told c = search needs
 
-add-tag : tie.Need-add-tag
-add-tag c = search needs
+enum-told-2 : tie.Need-enum-told-2
+enum-told-2 c = search needs
 
-mul-tag : tie.Need-mul-tag
-mul-tag c = search needs
+enum-known-l : tie.Need-enum-known-l
+enum-known-l c = search needs
 
-shared-slice-read-tag : tie.Need-shared-slice-read-tag
-shared-slice-read-tag c = search needs
+enum-known-body : tie.Need-enum-known-body
+enum-known-body c = search needs
 
-add-bound : tie.Need-add-bound
-add-bound c = search needs
-
-mul-bound : tie.Need-mul-bound
-mul-bound c = search needs
-
-shared-slice-read-bound : tie.Need-shared-slice-read-bound
-shared-slice-read-bound c = search needs
-
-add-limit : tie.Need-add-limit
-add-limit c = omega (arith, bound-high (c .before .before .before .before .before .args .area .now) (c .before .before .before .before .before .args .n) (c .before .before .before .before .before .args .count) (c .before .before .before .before .before .args .base) (c .before .before .before .before .before .pre .0))
-
-sub-v : tie.Need-sub-v
-sub-v c = search needs
-
-add-v : tie.Need-add-v
-add-v c = search needs
-
-mul-v : tie.Need-mul-v
-mul-v c = search needs
-
-shared-slice-read-v : tie.Need-shared-slice-read-v
-shared-slice-read-v c = search needs
-
-keep-requires : tie.Need-keep-requires
-keep-requires c κs = search needs
-
-keep-requires-2 : tie.Need-keep-requires-2
-keep-requires-2 c κs = search needs
-
-of-head-requires : tie.Need-of-head-requires
-of-head-requires c κs = search needs
+scan-requires : tie.Need-scan-requires
+scan-requires c κs =
+    let ready = known-so (c .before .before .before .look .ensures) (c .before .body .given .1) .placed in
+    (ready .entries, ready .turnable)
 
 returns : tie.Need-returns
-returns c =
-    let s = c .before .before .before .before .before .before .before .before .before .before .before in
-    let a = s .args in
-    let w = a .area .now in
-    let bound = word w (a .base + 2) in
-    let limit : c .before .before .before .before .before .before .if1 .limit ≡ limit-word (upper-in w (a .base)) bound =
-    ⊎-elim
-    (λ x. x .1 ∙ ap (λ u. limit-word u bound) (sym (x .0 .taken)))
-    (λ x. x .1 ∙ ap (λ u. limit-word u bound) (sym (x .0 .left)))
-    (c .before .before .before .before .before .before .if1 .came) in
-    let x : c .before .before .keep .result ≡ keeps true (limit-word (upper-in w (a .base)) bound) (a .greatest) = c .before .before .keep .ensures ∙ ap (λ m. keeps true m (a .greatest)) limit in
-    let y : c .before .keep2 .result ≡ keeps false (limit-word (upper-in w (a .base)) bound) (a .least) = c .before .keep2 .ensures ∙ ap (λ m. keeps false m (a .least)) limit in
-    subst (SaidIs w (a .n) (a .count) (a .base))
-    (sym (c .of-head .ensures
-    ∙ ap (λ z. head-says (not z) (not (c .before .keep2 .result)) (word w (a .base))) x
-    ∙ ap (λ z. head-says (not (keeps true (limit-word (upper-in w (a .base)) bound) (a .greatest))) (not z) (word w (a .base))) y))
-    (said-open w (a .n) (a .count) (a .base) (s .pre .0) (a .least) (a .greatest) (s .pre .1) true (c .before .before .before .if3 .taken) (c .before .before .before .before .if2 .taken))
-
-keep-requires-3 : tie.Need-keep-requires-3
-keep-requires-3 c κs = search needs
-
-keep-requires-4 : tie.Need-keep-requires-4
-keep-requires-4 c κs = search needs
-
-of-head-requires-2 : tie.Need-of-head-requires-2
-of-head-requires-2 c κs = search needs
+returns c = known-so (c .before .before .look .ensures) (c .enum-told .given .1) .said
 
 returns-2 : tie.Need-returns-2
-returns-2 c =
-    let s = c .before .before .before .before .before .before .before .before .before .before .before in
-    let a = s .args in
-    let w = a .area .now in
-    let bound = word w (a .base + 2) in
-    let limit : c .before .before .before .before .before .before .if1 .limit ≡ limit-word (upper-in w (a .base)) bound =
-    ⊎-elim
-    (λ x. x .1 ∙ ap (λ u. limit-word u bound) (sym (x .0 .taken)))
-    (λ x. x .1 ∙ ap (λ u. limit-word u bound) (sym (x .0 .left)))
-    (c .before .before .before .before .before .before .if1 .came) in
-    let x : c .before .before .keep3 .result ≡ keeps false (limit-word (upper-in w (a .base)) bound) (a .least) = c .before .before .keep3 .ensures ∙ ap (λ m. keeps false m (a .least)) limit in
-    let y : c .before .keep4 .result ≡ keeps true (limit-word (upper-in w (a .base)) bound) (a .greatest) = c .before .keep4 .ensures ∙ ap (λ m. keeps true m (a .greatest)) limit in
-    subst (SaidIs w (a .n) (a .count) (a .base))
-    (sym (c .of-head2 .ensures
-    ∙ ap (λ z. head-says (not z) (not (c .before .keep4 .result)) (word w (a .base))) x
-    ∙ ap (λ z. head-says (not (keeps false (limit-word (upper-in w (a .base)) bound) (a .least))) (not z) (word w (a .base))) y))
-    (said-open w (a .n) (a .count) (a .base) (s .pre .0) (a .least) (a .greatest) (s .pre .1) false (c .before .before .before .if3 .left) (c .before .before .before .before .if2 .taken))
-
-kind-of-requires : tie.Need-kind-of-requires
-kind-of-requires c κs = search needs
-
-mul-start : tie.Need-mul-start
-mul-start c = search needs
-
-mul-start-2 : tie.Need-mul-start-2
-mul-start-2 c = search needs
-
-add-start : tie.Need-add-start
-add-start c = search needs
-
-add-start-2 : tie.Need-add-start-2
-add-start-2 c = search needs
-
-mul-start-3 : tie.Need-mul-start-3
-mul-start-3 c = search needs
-
-shared-slice-read-start : tie.Need-shared-slice-read-start
-shared-slice-read-start c = search needs
-
-mul-start-4 : tie.Need-mul-start-4
-mul-start-4 c = search needs
-
-add-start-3 : tie.Need-add-start-3
-add-start-3 c = search needs
-
-add-merged : tie.Need-add-merged
-add-merged c = search needs
-
-mul-merged : tie.Need-mul-merged
-mul-merged c = search needs
-
-shared-slice-read-merged : tie.Need-shared-slice-read-merged
-shared-slice-read-merged c = search needs
-
-of-body-requires : tie.Need-of-body-requires
-of-body-requires c κs =
-    let s = c .before .before .before .before .before .before .before .before .before .before .before .before in
-    let a = s .args in
-    let w = a .area .now in
-    let k = c .before .before .before .before .kind-of .result in
-    let e = c .before .before .before .before .kind-of .ensures in
-    let v = value-at w (a .n) in
-    let words = entry-words w (entry-at w (a .n) (a .count) (a .base)) (merged-at w (a .base)) in
-    (entries-at w (a .n) (a .count) (a .base) (s .pre .0) k e, turnable-at w (a .n) (a .count) (a .base) (s .pre .0) (a .least) (a .greatest) (s .pre .1) k e true)
+returns-2 c = known-so (c .before .before .look .ensures) (c .enum-told2 .given .1) .said
 
 returns-3 : tie.Need-returns-3
-returns-3 c =
-    let s = c .before .before .before .before .before .before .before .before .before .before .before .before .before in
-    let a = s .args in
-    let w = a .area .now in
-    let bound = word w (a .base + 2) in
-    let limit : c .before .before .before .before .before .before .before .before .if1 .limit ≡ limit-word (upper-in w (a .base)) bound =
-    ⊎-elim
-    (λ x. x .1 ∙ ap (λ u. limit-word u bound) (sym (x .0 .taken)))
-    (λ x. x .1 ∙ ap (λ u. limit-word u bound) (sym (x .0 .left)))
-    (c .before .before .before .before .before .before .before .before .if1 .came) in
-    let k = c .before .before .before .before .before .kind-of .result in
-    let e = c .before .before .before .before .before .kind-of .ensures in
-    let v = value-at w (a .n) in
-    let words = entry-words w (entry-at w (a .n) (a .count) (a .base)) (merged-at w (a .base)) in
-    let odd = eqb (v (word w (a .base)) % 2) 1 in
-    let goes : upwards (upper-in w (a .base)) odd ≡ true =
-    ⊎-elim
-    (λ x. ap (λ u. upwards u odd) (x .0 .taken) ∙ sym (x .1) ∙ c .before .if5 .taken)
-    (λ x. ap (λ u. upwards u odd) (x .0 .left) ∙ sym (x .1) ∙ c .before .if5 .taken)
-    (c .before .before .if4 .came) in
-    subst (SaidIs w (a .n) (a .count) (a .base))
-    (sym (c .of-body .ensures ∙ ap (λ m. body-says k true m (a .greatest) (a .least) v words) limit))
-    (said-fixed w (a .n) (a .count) (a .base) (s .pre .0) (a .least) (a .greatest) (s .pre .1) k e odd true (c .before .before .before .before .before .before .if2 .left) refl goes)
-
-of-body-requires-2 : tie.Need-of-body-requires-2
-of-body-requires-2 c κs =
-    let s = c .before .before .before .before .before .before .before .before .before .before .before .before in
-    let a = s .args in
-    let w = a .area .now in
-    let k = c .before .before .before .before .kind-of .result in
-    let e = c .before .before .before .before .kind-of .ensures in
-    let v = value-at w (a .n) in
-    let words = entry-words w (entry-at w (a .n) (a .count) (a .base)) (merged-at w (a .base)) in
-    (entries-at w (a .n) (a .count) (a .base) (s .pre .0) k e, turnable-at w (a .n) (a .count) (a .base) (s .pre .0) (a .least) (a .greatest) (s .pre .1) k e false)
+returns-3 c = known-so (c .before .before .before .look .ensures) (c .before .l .given .1) .said
 
 returns-4 : tie.Need-returns-4
 returns-4 c =
-    let s = c .before .before .before .before .before .before .before .before .before .before .before .before .before in
-    let a = s .args in
-    let w = a .area .now in
-    let bound = word w (a .base + 2) in
-    let limit : c .before .before .before .before .before .before .before .before .if1 .limit ≡ limit-word (upper-in w (a .base)) bound =
-    ⊎-elim
-    (λ x. x .1 ∙ ap (λ u. limit-word u bound) (sym (x .0 .taken)))
-    (λ x. x .1 ∙ ap (λ u. limit-word u bound) (sym (x .0 .left)))
-    (c .before .before .before .before .before .before .before .before .if1 .came) in
-    let k = c .before .before .before .before .before .kind-of .result in
-    let e = c .before .before .before .before .before .kind-of .ensures in
-    let v = value-at w (a .n) in
-    let words = entry-words w (entry-at w (a .n) (a .count) (a .base)) (merged-at w (a .base)) in
-    let odd = eqb (v (word w (a .base)) % 2) 1 in
-    let goes : upwards (upper-in w (a .base)) odd ≡ false =
-    ⊎-elim
-    (λ x. ap (λ u. upwards u odd) (x .0 .taken) ∙ sym (x .1) ∙ c .before .if5 .left)
-    (λ x. ap (λ u. upwards u odd) (x .0 .left) ∙ sym (x .1) ∙ c .before .if5 .left)
-    (c .before .before .if4 .came) in
-    subst (SaidIs w (a .n) (a .count) (a .base))
-    (sym (c .of-body2 .ensures ∙ ap (λ m. body-says k false m (a .least) (a .greatest) v words) limit))
-    (said-fixed w (a .n) (a .count) (a .base) (s .pre .0) (a .least) (a .greatest) (s .pre .1) k e odd false (c .before .before .before .before .before .before .if2 .left) refl goes)
+    let a = c .before .before .before .before .before .before .args in
+    subst (SaidIs (a .area .now) (a .n) (a .count) (a .base)) (sym (c .scan .ensures))
+    (known-so (c .before .before .before .before .look .ensures) (c .before .before .body .given .1) .said)
 
 pub says-spec : {M : Type 1} → statement M
 says-spec =
     tie.close
     (tie.spec
-    mul-head
-    shared-slice-read-head
-    add-tag
-    mul-tag
-    shared-slice-read-tag
-    add-bound
-    mul-bound
-    shared-slice-read-bound
-    add-limit
-    sub-v
-    add-v
-    mul-v
-    shared-slice-read-v
-    keep-requires
-    keep-requires-2
-    of-head-requires
+    look-requires
+    enum-told
+    enum-told-2
+    enum-known-l
+    enum-known-body
+    scan-requires
     returns
-    keep-requires-3
-    keep-requires-4
-    of-head-requires-2
     returns-2
-    kind-of-requires
-    mul-start
-    mul-start-2
-    add-start
-    add-start-2
-    mul-start-3
-    shared-slice-read-start
-    mul-start-4
-    add-start-3
-    add-merged
-    mul-merged
-    shared-slice-read-merged
-    of-body-requires
     returns-3
-    of-body-requires-2
     returns-4)

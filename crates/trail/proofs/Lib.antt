@@ -1,0 +1,4 @@
+pub mod Advancing
+pub mod Acting
+pub mod OnTrail
+pub mod Giving

@@ -1,0 +1,58 @@
+-- The four stores of `put` and the renewal of the sentences that have the one touched atom (`Advancing`).
+-- Assumes nothing.
+use mathlib.Core.Path.{sym, subst}
+use mathlib.Core.List.{List}
+use Prim.Native.Nat.{ℕ, _/_}
+use lib.ListN.{set, replicate}
+use Rattle.refresh.specs.Refresh.{Refreshable, Refreshed}
+use Rattle.trail.proofs.Advancing.{put-ready, atom-small, refresh-ready, advance-done, table-marked, table-size}
+use borrow.Author.Needs.{needs}
+use Rattle.trail.proofs.advance.Statement.{statement}
+use Rattle.trail.proofs.advance.Tie as tie
+
+put-requires : tie.Need-put-requires
+put-requires c κs = let s = c .before .before in put-ready (s .pre .0) (s .args .area .now) (s .args .n) (s .args .count) (s .args .len) (s .pre .1) (s .args .literal) (s .args .mark) (s .pre .2)
+
+mul-touched : tie.Need-mul-touched
+mul-touched c = search needs
+
+array-write-touched : tie.Need-array-write-touched
+array-write-touched c = search needs
+
+slice-aggregate-refresh : tie.Need-slice-aggregate-refresh
+slice-aggregate-refresh c = search needs
+
+refresh-requires : tie.Need-refresh-requires
+refresh-requires c κs = let s = c .before .before .before .before .before .before .before in
+    let w = s .args .area .now in
+    let table : List ℕ = set (replicate 4097 0) (s .args .literal / 2) 1 in
+    let small = atom-small (s .pre .0) w (s .args .n) (s .args .count) (s .args .len) (s .pre .1) (s .args .literal) (s .args .mark) (s .pre .2) in (
+      s .pre .0,
+      subst (λ v. Refreshable (s .pre .0) v (s .args .n) (s .args .count) table) (sym (c .before .before .before .before .put .ensures))
+          (refresh-ready (s .pre .0) w (s .args .n) (s .args .count) (s .args .len) (s .pre .1) (s .args .literal) (s .args .mark) (s .pre .2) table (table-marked (s .args .literal / 2) small) (table-size (s .args .literal / 2))),
+    )
+
+same-length : tie.Need-same-length
+same-length c = search needs
+
+returns : tie.Need-returns
+returns c = λ lim level a.
+    let s = c .before .before .before .before .before .before .before .before .before .before in
+    let w = s .args .area .now in
+    let table : List ℕ = set (replicate 4097 0) (s .args .literal / 2) 1 in
+    let small = atom-small lim w (s .args .n) (s .args .count) (s .args .len) level (s .args .literal) (s .args .mark) a in
+    advance-done lim w (s .args .n) (s .args .count) (s .args .len) level (s .args .literal) (s .args .mark) a table (table-marked (s .args .literal / 2) small)
+    (c .before .before .refresh .last .0)
+    (subst (λ v. Refreshed v (c .before .before .refresh .last .0) (s .args .n) (s .args .count) table) (c .before .before .before .before .before .before .before .put .ensures) (c .before .before .refresh .ensures))
+
+pub advance-spec : {M : Type 1} → statement M
+advance-spec =
+    tie.close
+    (tie.spec
+    put-requires
+    mul-touched
+    array-write-touched
+    slice-aggregate-refresh
+    refresh-requires
+    same-length
+    returns)
