@@ -1,3 +1,3 @@
 pub mod Sentences
 pub mod Speech
-pub mod Entry
+pub mod Scan

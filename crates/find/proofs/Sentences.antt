@@ -12,12 +12,10 @@ use Rattle.meaning.specs.Computed.{says}
 use Rattle.book.specs.Rows.{trail}
 use Rattle.area.specs.Layout.{word, atoms-of, sentences-of, rows-from, rows-of, record-at, tag-at, least-at, greatest-at, merged-at, value-at, entry-at, entry-words, kind-of, rule-at}
 use Rattle.area.specs.Whole.{BoundsMatch}
-use Rattle.sentence.specs.declared.Kind.{Kind}
-use Rattle.sentence.specs.declared.Extremes.{Extremes}
 use Rattle.sentence.specs.declared.Known.{Known}
 use Rattle.sentence.specs.declared.Known.the-variants.{Silent}
 use Rattle.sentence.specs.Sentence.{Shows, Ready, ExtremesAre}
-use Rattle.sentence.specs.Words.{meant, extreme-word}
+use Rattle.sentence.specs.Words.{extreme-word}
 use Rattle.sentence.specs.Known.{KnownIs}
 use Rattle.sentence.proofs.Results.{coded, meant-coded}
 use Rattle.sentence.proofs.Stored.{folds-extremes}

@@ -1,11 +1,10 @@
 -- The table's speech from a sentence on: a silent sentence leaves it to the next, and the first that is not silent decides what is found.
 -- Assumes nothing.
-use mathlib.Core.Path.{_≡_, refl, _∙_, ap, subst}
+use mathlib.Core.Path.{_≡_, _∙_, ap, subst}
 use mathlib.Core.List.{List}
 use Prim.Native.Nat.{ℕ, suc, _+_, _-_, _/_, _<_, _≤_}
 use native.Mathlib.Omega.{arith}
 use lib.ListN.{getD}
-use lib.IntN.{ℤ}
 use Rattle.numbers.specs.Words.{literal-of}
 use Rattle.meaning.specs.Meaning as m
 use Rattle.meaning.specs.Merge.{scope}

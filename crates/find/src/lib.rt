@@ -53,7 +53,9 @@ pub fn find(area: &[u64], n: usize, count: usize) -> Found
                     let l = area[at + 1];
                     let v = area[n - 1 + (l / 2) as usize];
                     if sentence::entry_turns(body, w, v) {
-                        found = Found::Forced(s, sentence::entry_wanted(body, w, l), i + 1);
+                        let place = i + 1;
+                        let forced = sentence::entry_wanted(body, w, l);
+                        found = Found::Forced(s, forced, place);
                         break 'sentences;
                     }
                     i += 1;

@@ -52,13 +52,13 @@ pub record RenewedWhole (lim : Limits) (w₀ w w′ : List ℕ) (len level : ℕ
   pub rest : drop (need-of w₀) w′ ≡ drop (need-of w₀) w₀
 
 -- the parts of the check but for word 0, at any numbers of atoms and sentences
-record PartsAt (lim : Limits) (w : List ℕ) (len level n S : ℕ) : Type 0 where
-  trail-ok : TrailOk w n len level
-  places : PlacesOk lim w n S
-  sentences : AllRight lim w n S len
-  reasons : (i : ℕ) → i < len → Reasoned w n S i
+pub record PartsAt (lim : Limits) (w : List ℕ) (len level n S : ℕ) : Type 0 where
+  pub trail-ok : TrailOk w n len level
+  pub places : PlacesOk lim w n S
+  pub sentences : AllRight lim w n S len
+  pub reasons : (i : ℕ) → i < len → Reasoned w n S i
 
-joined-at : (lim : Limits) (w : List ℕ) (len level n S : ℕ) → atoms-of w ≡ n → sentences-of w ≡ S → HeaderOk lim w len level → PartsAt lim w len level n S → Whole lim w (counters len level)
+pub joined-at : (lim : Limits) (w : List ℕ) (len level n S : ℕ) → atoms-of w ≡ n → sentences-of w ≡ S → HeaderOk lim w len level → PartsAt lim w len level n S → Whole lim w (counters len level)
 joined-at lim w len level n S e f h p =
     let q : PartsAt lim w len level (atoms-of w) (sentences-of w) =
     subst (λ (k : ℕ). PartsAt lim w len level k (sentences-of w)) (sym e) (subst (λ (k : ℕ). PartsAt lim w len level n k) (sym f) p) in

@@ -1,8 +1,8 @@
 -- What is known of a sentence before the scan says the same as the sentence: a case of the one for each case of the other. Assumes nothing.
-use mathlib.Core.Path.{_≡_, refl, sym, _∙_, ap, subst}
+use mathlib.Core.Path.{_≡_, refl, sym, subst}
 use mathlib.Core.Bool.{Bool, true, false, not, cond, _&&_}
 use mathlib.Core.List.{List}
-use Prim.Native.Nat.{ℕ, _+_, _*_, _/_, _%_}
+use Prim.Native.Nat.{ℕ, _+_, _*_, _%_}
 use native.Mathlib.Omega.{arith}
 use lib.Dec.{eqb}
 use Rattle.area.specs.Layout.{word, tag-at, merged-at, entry-at, entry-words, value-at, kind-of}
@@ -11,8 +11,8 @@ use Rattle.sentence.specs.declared.Said.{Said}
 use Rattle.sentence.specs.declared.Known.{Known}
 use Rattle.sentence.specs.declared.Known.the-variants.{Silent, Conflict, Forced, Undecided}
 use Rattle.sentence.specs.Sentence.{Ready, ExtremesAre, SaidIs}
-use Rattle.sentence.specs.Words.{meant, second-word, limit-word, upwards, keeps, head-says, scanned, leaves-second, entries-say, body-says}
-use Rattle.sentence.specs.Known.{head-known, body-known, known-says, BodyReady, KnownPlaced, KnownIs}
+use Rattle.sentence.specs.Words.{meant, second-word, limit-word, upwards, keeps, head-says, scanned, leaves-second, body-says}
+use Rattle.sentence.specs.Known.{head-known, body-known, known-says, KnownPlaced, KnownIs}
 use Rattle.sentence.proofs.Stored.{upper-in, entries-at}
 use Rattle.sentence.proofs.Results.{turnable-at, said-fixed, said-open}
 

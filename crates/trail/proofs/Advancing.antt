@@ -2,7 +2,7 @@
 -- (`put-stands`), the new row's reason has its atom, and no atom that is not touched stands otherwise (`renewed-whole`). Assumes nothing.
 use mathlib.Core.Path.{_≡_, refl, sym, _∙_, ap, ap₂, subst}
 use mathlib.Core.List.{List, _∷_}
-use Prim.Native.Nat.{ℕ, suc, _+_, _*_, _/_, _%_, _<_, _≤_}
+use Prim.Native.Nat.{ℕ, suc, _+_, _/_, _%_, _<_}
 use native.Mathlib.Omega.{arith}
 use native.Mathlib.Numerals.{add-one}
 use lib.ListN.{length, getD, set, length-set, replicate, length-replicate}
@@ -14,7 +14,7 @@ use Rattle.meaning.specs.Meaning.{atom}
 use Rattle.meaning.specs.Merge.{Rule, scope}
 use Rattle.meaning.specs.Computed.{standing}
 use Rattle.book.specs.Rows.{Row, row, trail}
-use Rattle.area.specs.Layout.{word, atoms-of, sentences-of, level-of, row-at, rows-from, rows-of, record-at, rule-at}
+use Rattle.area.specs.Layout.{word, atoms-of, sentences-of, level-of, row-at, rows-from, rows-of, record-at}
 use Rattle.area.specs.Whole.{Reasoned}
 use Rattle.whole.specs.Parts.{counters}
 use Rattle.whole.proofs.Join.{Parts, parts}

@@ -2,22 +2,21 @@
 -- and otherwise the literal is put on at the current level with no reason. Assumes nothing.
 use mathlib.Core.Path.{_≡_, refl, sym, _∙_, ap, ap₂, subst}
 use mathlib.Core.Bool.{Bool, true, false, not, cond, _&&_, _||_}
-use mathlib.Core.List.{List, _∷_}
-use Prim.Native.Nat.{ℕ, suc, _+_, _*_, _/_, _%_, _<_, _≤_}
+use mathlib.Core.List.{List}
+use Prim.Native.Nat.{ℕ, _+_, _/_, _<_, _≤_}
 use native.Mathlib.Omega.{arith}
 use lib.IntN.{ℤ, pos, negsuc}
 use lib.Dec.{leb}
 use borrow.Author.Tests.{le-leb, lt-leb}
 use Rattle.types.specs.declared.Limits.{Limits}
-use Rattle.numbers.specs.Words.{literal-word, literal-of}
+use Rattle.numbers.specs.Words.{literal-word}
 use Rattle.numbers.proofs.Words.{literal-of-word}
 use Rattle.meaning.specs.Meaning.{atom}
-use Rattle.book.specs.Rows.{Row, row}
 use Rattle.book.specs.Table.{give, refused, done, paper, no-atom, on-trail, Outcome, unchanged, effect, reply}
 use Rattle.book.specs.Book.{Counters}
-use Rattle.area.specs.Layout.{atoms-of, sentences-of, level-of, rows-of, value-at}
+use Rattle.area.specs.Layout.{atoms-of, sentences-of, value-at}
 use Rattle.whole.specs.Parts.{counters}
-use Rattle.calls.specs.Calls.{area-state, is-refusal, keeps, Moved, Acts}
+use Rattle.calls.specs.Calls.{area-state, is-refusal, Moved, Acts}
 use Rattle.trail.specs.Trail.{Advanceable, Advanced}
 use Rattle.trail.specs.Ready.{Usable}
 use Rattle.trail.proofs.Advancing.{advanced-rows}

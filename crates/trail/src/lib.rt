@@ -1,4 +1,4 @@
-// Steps of a caller on the trail: give, open, take back.
+// A literal put on: given by a caller, or with a reason.
 use calls::Done;
 use types::Counters;
 use types::Limits;

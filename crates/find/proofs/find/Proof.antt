@@ -1,16 +1,15 @@
 -- `find::find` meets its contract. The sentences before s are silent, and nothing is found yet; in sentence s, scanning the words from
 -- entry i on comes to what the sentence says. Assumes nothing.
-use mathlib.Core.Path.{_≡_, refl, sym, ap, _∙_, subst}
+use mathlib.Core.Path.{_≡_, refl, sym, _∙_, subst}
 use mathlib.Core.Logic.{⊎-elim}
-use Prim.Native.Nat.{_+_, _-_, _*_, _/_, _≤_, _<_}
+use Prim.Native.Nat.{_+_, _-_, _≤_, _<_}
 use native.Mathlib.Omega.{arith}
 use borrow.Author.Needs.{needs}
-use Rattle.area.specs.Layout.{value-at, record-at}
 use Rattle.sentence.specs.Room.{Entries}
 use Rattle.find.specs.declared.Found.the-variants.{Nothing, Forced}
 use Rattle.find.specs.Find.{FoundIs}
 use Rattle.find.proofs.Speech.{SilentTo, silent-start, silent-next, found-nothing}
-use Rattle.find.proofs.Entry.{Scanned, known-here, scan-starts, scan-turns, scan-next, scanned-none, conflict-found, head-found, entry-found}
+use Rattle.find.proofs.Scan.{Scanned, known-here, scan-starts, scan-turns, scan-next, scanned-none, conflict-found, head-found, entry-found}
 use Rattle.find.proofs.find.Statement.{statement}
 use Rattle.find.proofs.find.Tie as tie
 
@@ -86,15 +85,15 @@ shared-slice-read-v c = omega (arith, c .before .before .before .before .loop .i
 entry-turns-requires : tie.Need-entry-turns-requires Inv-loop μ-loop Inv-sentences μ-sentences
 entry-turns-requires c κs = scan-turns (c .before .before .before .before .loop .i) (c .before .before .before .loop-test .taken) (c .before .before .before .before .loop .inv .2) (c .before .before .before .before .loop .inv .3)
 
+add-place : tie.Need-add-place Inv-loop μ-loop Inv-sentences μ-sentences
+add-place c = search needs
+
 entry-wanted-requires : tie.Need-entry-wanted-requires Inv-loop μ-loop Inv-sentences μ-sentences
 entry-wanted-requires c κs =
     let e = c .before .before .before .before .before .before .loop .inv .2 in
     let i = c .before .before .before .before .before .before .loop .i in
     let h = c .before .before .before .before .before .loop-test .taken in
     (e .literal i h, omega (arith, e .values, e .atom-high i h))
-
-add-t29 : tie.Need-add-t29 Inv-loop μ-loop Inv-sentences μ-sentences
-add-t29 c = search needs
 
 add-i : tie.Need-add-i Inv-loop μ-loop Inv-sentences μ-sentences
 add-i c = search needs
@@ -183,8 +182,8 @@ find-spec =
     mul-v
     shared-slice-read-v
     entry-turns-requires
+    add-place
     entry-wanted-requires
-    add-t29
     add-i
     loop-less
     loop-again

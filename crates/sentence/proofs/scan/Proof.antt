@@ -1,7 +1,7 @@
 -- `sentence::scan` meets its contract. The loop's invariant: scanning the words from entry i on comes to the whole answer, and turning
 -- their open entries does not wrap. Assumes nothing.
 use mathlib.Core.Path.{_≡_, refl, sym, ap, _∙_}
-use mathlib.Core.Bool.{true, false}
+use mathlib.Core.Bool.{true}
 use Prim.Native.Nat.{_-_, _/_, _≤_, _<_}
 use native.Mathlib.Omega.{arith}
 use borrow.Author.Needs.{needs}

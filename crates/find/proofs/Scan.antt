@@ -1,19 +1,15 @@
--- The scan of a sentence's entries: from entry i on it comes to what the whole scan says, so that the first open entry that turns is what
--- the sentence forces, at the entry's place. Assumes nothing.
+-- What is found at a sentence behind silent ones: its conflict, its head, or the first open entry that turns, since the scan from an entry
+-- on comes to what the whole scan says where no entry before it turns. Assumes nothing.
 use mathlib.Core.Path.{_≡_, refl, sym, _∙_, ap, subst}
-use mathlib.Core.Bool.{Bool, true, false}
+use mathlib.Core.Bool.{true, false}
 use mathlib.Core.List.{List}
-use Prim.Native.Nat.{ℕ, _+_, _*_, _-_, _/_, _<_, _≤_}
+use Prim.Native.Nat.{ℕ, _+_, _*_, _-_, _/_, _<_}
 use native.Mathlib.Omega.{arith}
-use lib.ListN.{length, getD}
-use Rattle.numbers.specs.Words.{literal-of}
 use Rattle.meaning.specs.Meaning as m
-use Rattle.meaning.specs.Merge.{scope}
-use Rattle.area.specs.Layout.{word, merged-at, value-at, entry-at, entry-words, record-at, rule-at}
+use Rattle.area.specs.Layout.{word, value-at, entry-at, entry-words, record-at}
 use Rattle.sentence.specs.declared.Body.{Body}
 use Rattle.sentence.specs.declared.Known.{Known}
-use Rattle.sentence.specs.declared.Known.the-variants.{Silent, Conflict, Forced, Undecided}
-use Rattle.sentence.specs.declared.Said.the-variants as said
+use Rattle.sentence.specs.declared.Known.the-variants.{Conflict, Forced, Undecided}
 use Rattle.sentence.specs.Sentence.{said-of}
 use Rattle.sentence.specs.Words.{empty-word, weight-in, literal-in, wanted-word, scanned}
 use Rattle.sentence.specs.Room.{Entries, Turns}
@@ -24,7 +20,7 @@ use Rattle.theory_check.proofs.Scope.{scope-entry}
 use Rattle.find.specs.declared.Found.{Found}
 use Rattle.find.specs.Find.{FoundIs}
 use Rattle.find.specs.Asked.{KnownAt}
-use Rattle.find.proofs.Speech.{said-by, SilentTo, silent-next, found-conflict, found-forced}
+use Rattle.find.proofs.Speech.{said-by, SilentTo, found-conflict, found-forced}
 
 -- the scan from entry i on
 abbrev pub Scanned : List ℕ → ℕ → Body → ℕ → Type 0
