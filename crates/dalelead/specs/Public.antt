@@ -7,8 +7,10 @@ use lib.ListN.{length}
 use lib.IntN.{ℤ}
 use Rattle.types.specs.Limits.{base}
 use Rattle.types.specs.declared.Counters.{Counters}
-use Rattle.book.specs.Table.{give, open-level, take-back, bounds, list-trail}
+use Rattle.book.specs.Table.{give, open-level, take-back, propagate, bounds, list-trail}
 use Rattle.calls.specs.Calls.{counted, done-paper, bounds-paper, listed-paper, Answered, Acts, Lists}
+use Rattle.propagate.specs.Propagate.{propagated-paper, counters-of}
+use Rattle.propagate.specs.declared.Propagated.{Propagated}
 use Rattle.calls.specs.declared.Done.{Done}
 use Rattle.calls.specs.declared.Bounds.{Bounds}
 use Rattle.calls.specs.declared.Listed.{Listed}
@@ -21,6 +23,9 @@ Opens w w′ c r = Acts base w w′ (counted c) (counted (r .counters)) open-lev
 
 abbrev pub TakesBack : (w w′ : List ℕ) → Counters → ℕ → Done → Type 0
 TakesBack w w′ c k r = Acts base w w′ (counted c) (counted (r .counters)) (take-back k) (done-paper r)
+
+abbrev pub Propagates : (w w′ : List ℕ) → Counters → Propagated → Type 0
+Propagates w w′ c r = Acts base w w′ (counted c) (counted (counters-of r)) propagate (propagated-paper r)
 
 abbrev pub ReadsBounds : (w : List ℕ) → Counters → ℕ → Bounds → Type 0
 ReadsBounds w c k r = Answered base w (counted c) (bounds k) (bounds-paper r)

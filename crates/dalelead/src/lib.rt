@@ -8,12 +8,11 @@ use types::Counters;
 use types::Level;
 use types::Limits;
 use types::Sentence;
-
 ghost use Prim.Native.Nat.{_+_, _*_};
 ghost use Rattle.types.specs.Limits.{base};
 ghost use Rattle.columns.specs.Columns.{columns};
 ghost use Rattle.load.specs.Load.{Loads};
-ghost use Rattle.dalelead.specs.Public.{Gives, Opens, TakesBack, ReadsBounds, ListsTrail};
+ghost use Rattle.dalelead.specs.Public.{Gives, Opens, TakesBack, Propagates, ReadsBounds, ListsTrail};
 
 // Load: the columns are checked and stored, merged, in the area; the counters start at 0 and 0.
 pub fn load(
@@ -29,7 +28,17 @@ pub fn load(
 ) -> Answer
     ensures { λ r. ⌜ Loads base (now (area .entry)) (now (area .exit)) (atoms .0) (columns (now (heads .entry)) (now (kinds .entry)) (now (sides .entry)) (now (bounds .entry)) (now (counts .entry)) (now (weights .entry)) (now (literals .entry))) r ⌝ }
 {
-    load::load(area, atoms, heads, kinds, sides, bounds, counts, weights, literals)
+    load::load(
+        area,
+        atoms,
+        heads,
+        kinds,
+        sides,
+        bounds,
+        counts,
+        weights,
+        literals,
+    )
 }
 
 // Give: a literal is put on at the current level.
@@ -51,6 +60,13 @@ pub fn take_back(area: &mut [u64], counters: Counters, level: Level) -> Done
     ensures { λ r. ⌜ TakesBack (now (area .entry)) (now (area .exit)) counters (level .0) r ⌝ }
 {
     levels::take_back_within(area, Limits::base(), counters, level)
+}
+
+// Propagate: what follows is put on, until no sentence has anything to say or one is in conflict.
+pub fn propagate(area: &mut [u64], counters: Counters) -> propagate::Propagated
+    ensures { λ r. ⌜ Propagates (now (area .entry)) (now (area .exit)) counters r ⌝ }
+{
+    propagate::propagate_within(area, Limits::base(), counters)
 }
 
 // The least and the greatest value of a sentence, for the set as written, over the full assignments that agree with the trail.

@@ -1,1 +1,2 @@
 pub mod Propagate
+pub mod Settle

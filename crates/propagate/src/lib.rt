@@ -1,6 +1,15 @@
 // Propagate: one step after the other, until no sentence has anything to say or one is in conflict.
+use find::Found;
 use types::Counters;
+use types::Limits;
 use types::Sentence;
+ghost use Rattle.types.specs.Limits.{Fitting};
+ghost use Rattle.book.specs.Table.{propagate};
+ghost use Rattle.calls.specs.Calls.{counted, Acts};
+ghost use Rattle.find.specs.Find.{Searchable};
+ghost use Rattle.find.specs.Asked.{Asked};
+ghost use Rattle.propagate.specs.Propagate.{propagated-paper, counters-of, Stopped};
+ghost use Rattle.propagate.specs.Settle.{Settleable, Settled};
 
 // The area is not whole; still, with the number of literals put on; or a conflict, with its sentence and that number. Each with the
 // counters after the call.
@@ -8,4 +17,75 @@ pub enum Propagated {
     Broken(Counters),
     Still(u64, Counters),
     Conflict(Sentence, u64, Counters),
+}
+
+// Where the loop stops: the number of the sentence in conflict, 0 where none is, and the trail's length.
+struct End {
+    sentence: u64,
+    length: usize,
+}
+
+// No sentence is pending any more.
+fn settle(area: &mut [u64], n: usize, count: usize)
+    requires { ⌜ Settleable (now area) n count ⌝ }
+    ensures { λ _. ⌜ Settled (now (area .entry)) (now (area .exit)) n count ⌝ }
+{
+    let mut s: usize = 0;
+    while s < count {
+        let at = 4 * n + 8 * s + 1;
+        area[at] = area[at] % 16;
+        s += 1;
+    }
+}
+
+// On a whole area: what the lowest-numbered sentence that speaks forces is put on, with its level, reason and place, again and again.
+fn run(area: &mut [u64], n: usize, count: usize, len: usize, level: u64) -> End
+    requires { ⌜ ((lim : Limits) × Searchable lim (now area) n count len level) ⌝ }
+    ensures { λ r. ⌜ ((lim : Limits) → Searchable lim (now (area .entry)) n count len level → Stopped lim (now (area .entry)) (now (area .exit)) level (r .length) (r .sentence)) ⌝ }
+{
+    let mut length = len;
+    loop {
+        let found = find::find(area, n, count);
+        match found {
+            Found::Nothing => {
+                settle(area, n, count);
+                return End {
+                    sentence: 0,
+                    length,
+                };
+            }
+            Found::Conflict(s) => {
+                return End {
+                    sentence: s as u64 + 1,
+                    length,
+                };
+            }
+            Found::Forced(s, literal, place) => {
+                let mark = level + 65536 * (s as u64 + 1) + 4294967296 * place as u64;
+                trail::advance(area, n, count, length, literal, mark);
+                length += 1;
+            }
+        }
+    }
+}
+
+// Every step of the loop, from the current level; the level stays.
+pub fn propagate_within(area: &mut [u64], lim: Limits, counters: Counters) -> Propagated
+    requires { ⌜ Fitting lim ⌝ }
+    ensures { λ r. ⌜ Acts lim (now (area .entry)) (now (area .exit)) (counted counters) (counted (counters-of r)) propagate (propagated-paper r) ⌝ }
+{
+    let len = counters.length;
+    let level = counters.level;
+    if !whole::is_whole(area, lim, len, level.0) {
+        return Propagated::Broken(counters);
+    }
+    let n = (area[0] % 65536) as usize;
+    let count = (area[0] / 65536 % 65536) as usize;
+    let end = run(area, n, count, len as usize, level.0);
+    let length = end.length as u64;
+    let next = Counters { length, level };
+    if end.sentence == 0 {
+        return Propagated::Still(length - len, next);
+    }
+    Propagated::Conflict(Sentence(end.sentence), length - len, next)
 }

@@ -1,5 +1,7 @@
 -- The call at the limits of document 01 is the call within them. Assumes nothing.
 use mathlib.Core.Path.{sym, subst}
+use mir.Syntax.{w64}
+use mir.ValLaws.{toZ-ofZ}
 use Rattle.types.specs.Limits.{Fitting}
 use Rattle.load.proofs.Base.{base-fits}
 use borrow.Author.Needs.{needs}
@@ -10,13 +12,15 @@ base-requires : tie.Need-base-requires
 base-requires c κs = search needs
 
 give-within-requires : tie.Need-give-within-requires
-give-within-requires c κs = subst Fitting (sym (c .before .before .base .ensures)) base-fits
+give-within-requires c κs = subst Fitting (sym (c .base .ensures)) base-fits
 
 same-length : tie.Need-same-length
 same-length c = search needs
 
 returns : tie.Need-returns
-returns c = rw (c .before .before .before .before .before .base .ensures) at (c .before .before .give-within .ensures)
+returns c =
+    rw (c .before .before .before .base .ensures, toZ-ofZ w64 (c .before .before .before .before .before .before .args .literal) (c .before .before .before .before .before .before .fits .literal)) at
+    (c .before .before .give-within .ensures)
 
 pub give-spec : {M : Type 1} → statement M
 give-spec = tie.close (tie.spec base-requires give-within-requires same-length returns)

@@ -10,13 +10,13 @@ base-requires : tie.Need-base-requires
 base-requires c κs = search needs
 
 take-back-within-requires : tie.Need-take-back-within-requires
-take-back-within-requires c κs = subst Fitting (sym (c .before .before .base .ensures)) base-fits
+take-back-within-requires c κs = subst Fitting (sym (c .base .ensures)) base-fits
 
 same-length : tie.Need-same-length
 same-length c = search needs
 
 returns : tie.Need-returns
-returns c = rw (c .before .before .before .before .before .base .ensures) at (c .before .before .take-back-within .ensures)
+returns c = rw (c .before .before .before .base .ensures) at (c .before .before .take-back-within .ensures)
 
 pub take-back-spec : {M : Type 1} → statement M
 take-back-spec = tie.close (tie.spec base-requires take-back-within-requires same-length returns)

@@ -1,0 +1,7 @@
+pub mod Settling
+pub mod Heard
+pub mod Needs
+pub mod Quiet
+pub mod Forcing
+pub mod Reaching
+pub mod Ending
