@@ -13,13 +13,12 @@ use Rattle.book.specs.Rows.{Row, row, trail}
 use Rattle.book.specs.Table.{propagate, Paper, paper, Judged, Speech, nothing, objects, derives, speech, Stop, run, propagated, Outcome, ended, reply}
 use Rattle.book.specs.Book.{judged-all}
 use Rattle.book.proofs.Keeps.{next}
-use Rattle.area.specs.Layout.{atoms-of, level-of, rows-of, theory-of}
+use Rattle.area.specs.Layout.{atoms-of, length-of, level-of, rows-of, theory-of}
 use Rattle.area.specs.Whole.{Whole}
 use Rattle.calls.specs.Calls.{area-state, is-refusal, Moved, Acts}
 use Rattle.trail_check.proofs.Rows.{rows-length}
 use Rattle.whole.specs.Parts.{counters}
 use Rattle.calls.proofs.Acting.{acts-moved}
-use Rattle.levels.proofs.Changes.{whole-rows}
 use Rattle.propagate.specs.Propagate.{plain, Stopped}
 
 -- the table's run only puts rows on
@@ -39,7 +38,7 @@ not-refused (suc k) n = tt
 
 module _ (lim : Limits) (w w′ : List ℕ) (len level len′ sentence : ℕ) (h : Whole lim w (counters len level)) (st : Stopped lim w w′ level len′ sentence) where
   whole-length : (v : List ℕ) (k : ℕ) → Whole lim v (counters k level) → length (rows-of v) ≡ k
-  whole-length v k g = ap {A = List Row} length (whole-rows lim v k level g) ∙ rows-length v (atoms-of v) k
+  whole-length v k g = rows-length v (atoms-of v) (length-of v) ∙ g .length-is
 
   stop-is : propagated (area-state lim w) ≡ record { sentence = sentence; rows = rows-of w′ }
   stop-is = ap {A = ℕ} (λ v. run (judged-all (theory-of w)) v (suc (atoms-of w)) (rows-of w)) (h .level-is) ∙ st .stop

@@ -18,9 +18,9 @@ use Rattle.meaning.specs.Merge.{Rule, scope}
 use Rattle.meaning.specs.Computed.{free, fixed, standing}
 use Rattle.meaning.proofs.Gather.{each-map}
 use Rattle.meaning.proofs.Members.{places-each}
-use Rattle.book.specs.Rows.{Row, trail}
+use Rattle.book.specs.Rows.{trail}
 use Rattle.book.proofs.Number.{in-each}
-use Rattle.area.specs.Layout.{atoms-of, sentences-of, value-at, rows-of, record-at, merged-at, rule-at, theory-of}
+use Rattle.area.specs.Layout.{atoms-of, sentences-of, value-at, rows-from, rows-of, record-at, merged-at, rule-at, theory-of}
 use Rattle.area.specs.Whole.{EntryWhole, RuleWhole, Whole}
 use Rattle.trail_check.proofs.Rows.{atom-of}
 use Rattle.trail_check.proofs.Shown.{shows}
@@ -29,7 +29,6 @@ use Rattle.theory_check.proofs.Scope.{scope-past}
 use Rattle.whole.specs.Parts.{counters}
 use Rattle.whole.proofs.Join.{parts}
 use Rattle.whole.proofs.DeterminedPlaces.{place-in}
-use Rattle.levels.proofs.Changes.{whole-rows}
 use Rattle.trail.specs.Trail.{Advanceable}
 use Rattle.find.specs.declared.Found.the-variants.{Forced}
 use Rattle.find.specs.Find.{Searchable, FoundIs}
@@ -104,7 +103,7 @@ module _ (lim : Limits) (w : List ℕ) (len level : ℕ) (fit : Fitting lim) (h 
   open-atom =
       free-word (value-at w n (l / 2))
       (sym (shows (parts lim w len level h .trail-ok) (l / 2) (omega (arith, low)) high)
-      ∙ ap {A = List Row} (λ rs. standing (trail rs) (l / 2)) (sym (whole-rows lim w len level h))
+      ∙ ap {A = ℕ} (λ k. standing (trail (rows-from w n k)) (l / 2)) (sym (h .length-is))
       ∙ ap {A = ℕ} (standing (trail (rows-of w))) (sym (atom-of l))
       ∙ derived-open (trail (rows-of w)) (theory-of w) (suc s) (literal-of l) (f .speech-is))
 

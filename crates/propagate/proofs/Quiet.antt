@@ -14,17 +14,15 @@ use Rattle.book.specs.Rows.{Row, trail}
 use Rattle.book.specs.Table.{nothing, speech}
 use Rattle.book.specs.Book.{judged-all}
 use Rattle.area.specs.Layout.{word, atoms-of, sentences-of, rows-from, rows-of, record-at, rule-at, rules-from, theory-of, entries-before, need-of}
-use Rattle.area.specs.Whole.{Whole, Reasoned}
-use Rattle.trail_check.specs.Trail.{HeaderOk, TrailOk}
-use Rattle.theory_check.specs.Theory.{PlacesOk}
+use Rattle.area.specs.Whole.{Whole}
+use Rattle.trail_check.specs.Trail.{HeaderOk}
 use Rattle.whole.specs.Parts.{counters, Matching, SentenceRight, AllRight}
-use Rattle.whole.proofs.Join.{Parts, parts, joined}
+use Rattle.whole.proofs.Join.{Parts, parts}
 use Rattle.refresh.specs.Refresh.{SameRecord}
 use Rattle.refresh.proofs.Frame.{drop-same}
 use Rattle.refresh.proofs.Theories.{SameTheory, rule-stays, sentence-stays, rules-stay, before-stays, places-stay}
 use Rattle.refresh.proofs.Trails.{header-stays, rows-stay, trail-stays, reason-stays}
-use Rattle.refresh.proofs.WholeNext.{RenewedWhole}
-use Rattle.levels.proofs.Changes.{whole-rows}
+use Rattle.refresh.proofs.WholeNext.{RenewedWhole, joined-at}
 use Rattle.propagate.specs.Settle.{Settled}
 use Rattle.propagate.proofs.Heard.{all-silent}
 
@@ -87,7 +85,7 @@ module _ (lim : Limits) (w w′ : List ℕ) (len level : ℕ) (h : Whole lim w (
         };
         quiet = λ _.
             ap {A = Rule} (λ r. says r t) rule
-            ∙ ap {A = List Row} (λ rs. says (rule-at w n S b) (trail rs)) (sym (whole-rows lim w len level h))
+            ∙ ap {A = ℕ} (λ k. says (rule-at w n S b) (trail (rows-from w n k))) (sym (h .length-is))
             ∙ all-silent w (trail (rows-of w)) said s l;
       }
 
@@ -110,26 +108,15 @@ module _ (lim : Limits) (w w′ : List ℕ) (len level : ℕ) (h : Whole lim w (
   header : HeaderOk lim w′ len level
   header = header-stays lim w w′ len level (done .size) first (before .header)
 
-  -- the parts of the check but for word 0
-  record PartsAt (m k : ℕ) : Type 0 where
-    trail-ok : TrailOk w′ m len level
-    places : PlacesOk lim w′ m k
-    sentences : AllRight lim w′ m k len
-    reasons : (i : ℕ) → i < len → Reasoned w′ m k i
-
-  after : PartsAt n S
-  after = record {
-    trail-ok = trail-stays w w′ n front len level few (before .trail-ok);
-    places = places-stay same lim (before .places);
-    sentences = right;
-    reasons = λ i l. reason-stays w w′ n front S i same (omega (arith, few)) (before .reasons i l);
-  }
-
   whole : Whole lim w′ (counters len level)
   whole =
-      let p : PartsAt (atoms-of w′) (sentences-of w′) =
-      subst (λ (m : ℕ). PartsAt m (sentences-of w′)) (sym atoms-kept) (subst (λ (k : ℕ). PartsAt n k) (sym sentences-kept) after) in
-      joined lim w′ len level (record { header = header; trail-ok = p .trail-ok; places = p .places; sentences = p .sentences; reasons = p .reasons })
+      joined-at lim w′ len level n S atoms-kept sentences-kept header
+      (record {
+        trail-ok = trail-stays w w′ n front len level few (before .trail-ok);
+        places = places-stay same lim (before .places);
+        sentences = right;
+        reasons = λ i l. reason-stays w w′ n front S i same (omega (arith, few)) (before .reasons i l);
+      })
 
   pub settled-whole : RenewedWhole lim w w w′ len level
   settled-whole = record {

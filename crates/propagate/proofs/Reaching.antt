@@ -12,10 +12,9 @@ use Rattle.book.specs.Rows.{Row, row, trail}
 use Rattle.book.specs.Table.{Judged, Speech, speech, run}
 use Rattle.book.specs.Book.{judged-all}
 use Rattle.book.proofs.Keeps.{next}
-use Rattle.area.specs.Layout.{atoms-of, sentences-of, level-of, rows-of, theory-of, need-of}
+use Rattle.area.specs.Layout.{atoms-of, sentences-of, level-of, rows-from, rows-of, theory-of, need-of}
 use Rattle.whole.proofs.Join.{parts}
 use Rattle.refresh.proofs.WholeNext.{RenewedWhole}
-use Rattle.levels.proofs.Changes.{whole-rows}
 use Rattle.trail.specs.Trail.{Advanced}
 use Rattle.find.specs.declared.Found.{Found}
 use Rattle.find.specs.declared.Found.the-variants.{Nothing, Conflict, Forced}
@@ -145,7 +144,7 @@ module _ {lim : Limits} {w₀ w : List ℕ} {n S level len₀ len : ℕ} (r : Re
           level-same = q .level-is ∙ sym (r .searchable .whole .level-is) ∙ r .level-same;
           stop =
               rest-of-run Nothing f
-              ∙ ap (λ (rs : List Row). record { sentence = 0; rows = rs }) (whole-rows lim w len level (r .searchable .whole) ∙ sym (q .rows));
+              ∙ ap (λ (rs : List Row). record { sentence = 0; rows = rs }) (ap {A = ℕ} (rows-from w (atoms-of w)) (r .searchable .whole .length-is) ∙ sym (q .rows));
           size = q .size ∙ r .size;
           rest = subst (λ (k : ℕ). drop k w′ ≡ drop k w) (need-same w₀ w (r .atoms) (r .theory)) (q .rest) ∙ r .rest;
         }

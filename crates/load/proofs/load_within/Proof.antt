@@ -1,7 +1,7 @@
 -- A refusal is returned before a word is written; otherwise the sentences are stored and their bounds renewed. Assumes nothing.
 use mathlib.Core.Path.{refl, sym, ap, _∙_}
 use native.Mathlib.Omega.{arith}
-use lib.ListN.{length, replicate, getD-replicate}
+use lib.ListN.{length, getD-replicate}
 use Rattle.columns.specs.Columns.{Columns, columns}
 use Rattle.columns.specs.declared.Answer.{Answer}
 use Rattle.columns.proofs.Accepted.{Accepted, accepted}
@@ -14,7 +14,9 @@ abbrev cols : (c : tie.Start) → Columns
 cols c = columns (c .args .heads .now) (c .args .kinds .now) (c .args .sides .now) (c .args .bounds .now) (c .args .counts .now) (c .args .weights .now) (c .args .literals .now)
 
 ok : (c : tie.Else1) → Accepted (c .before .before .before .before .before .before .before .args .lim) (length (c .before .before .before .before .before .before .before .args .area .now)) (c .before .before .before .before .before .before .before .args .atoms .0) (cols (c .before .before .before .before .before .before .before))
-ok c = accepted (c .before .before .before .before .before .before .before .args .lim) (length (c .before .before .before .before .before .before .before .args .area .now)) (c .before .before .before .before .before .before .before .args .atoms .0) (cols (c .before .before .before .before .before .before .before)) (ap (λ (a : Answer). a .code) (sym (c .before .refusal .ensures)) ∙ c .if1 .left)
+ok c =
+    let b = c .before .before .before .before .before .before .before in
+    accepted (b .args .lim) (length (b .args .area .now)) (b .args .atoms .0) (cols b) (ap (λ (a : Answer). a .code) (sym (c .before .refusal .ensures)) ∙ c .if1 .left)
 
 refusal-requires : tie.Need-refusal-requires
 refusal-requires c κs = search needs
@@ -23,24 +25,32 @@ returns : tie.Need-returns
 returns c = record { answer-is = c .before .refusal .ensures; refused = λ _. refl; accepted = λ e. absurd (c .if1 .taken e) }
 
 store-all-requires : tie.Need-store-all-requires
-store-all-requires c κs = record { lim = c .before .before .before .before .before .before .before .before .args .lim; fitting = c .before .before .before .before .before .before .before .before .pre; unrefused = ap (λ (a : Answer). a .code) (sym (c .before .before .refusal .ensures)) ∙ c .before .if1 .left }
+store-all-requires c κs =
+    let b = c .before .before .before .before .before .before .before .before in
+    record { lim = b .args .lim; fitting = b .pre; unrefused = ap (λ (a : Answer). a .code) (sym (c .before .before .refusal .ensures)) ∙ c .before .if1 .left }
 
 slice-aggregate-refresh : tie.Need-slice-aggregate-refresh
 slice-aggregate-refresh c = search needs
 
 refresh-requires : tie.Need-refresh-requires
-refresh-requires c κs = (c .before .before .before .before .before .before .before .before .before .before .before .before .before .args .lim, refreshable (c .before .before .before .before .before .before .before .before .before .before .before .before .before .args .lim) (c .before .before .before .before .before .before .before .before .before .before .before .before .before .args .area .now) (c .before .before .before .before .store-all .last .0) (c .before .before .before .before .before .before .before .before .before .before .before .before .before .args .atoms .0) (cols (c .before .before .before .before .before .before .before .before .before .before .before .before .before)) (c .before .before .before .before .before .before .before .before .before .before .before .before .before .pre) (ok (c .before .before .before .before .before .before)) (c .before .before .before .before .store-all .ensures) (replicate 4097 1) refl)
+refresh-requires c κs =
+    let b = c .before .before .before .before .before .before .before .before .before .before .before .before .before in
+    (b .args .lim, refreshable (b .args .lim) (b .args .area .now) (c .before .before .before .before .store-all .last .0) (b .args .atoms .0) (cols b) (b .pre) (ok (c .before .before .before .before .before .before)) (c .before .before .before .before .store-all .ensures) _ refl)
 
 same-length : tie.Need-same-length
 same-length c = search needs
 
 returns-2 : tie.Need-returns-2
 returns-2 c =
+    let b = c .before .before .before .before .before .before .before .before .before .before .before .before .before .before .before .before in
+    let told = c .before .before .before .before .before .before .before .before .before in
+    let stored = c .before .before .before .before .before .before .before .store-all in
+    let renewed = c .before .before .refresh in
     record {
-      answer-is = c .before .before .before .before .before .before .before .before .before .before .refusal .ensures;
-      refused = λ d. absurd (d (c .before .before .before .before .before .before .before .before .before .if1 .left));
-      accepted = λ _. loaded (c .before .before .before .before .before .before .before .before .before .before .before .before .before .before .before .before .args .lim) (c .before .before .before .before .before .before .before .before .before .before .before .before .before .before .before .before .args .area .now) (c .before .before .before .before .before .before .before .store-all .last .0) (c .before .before .before .before .before .before .before .before .before .before .before .before .before .before .before .before .args .atoms .0) (cols (c .before .before .before .before .before .before .before .before .before .before .before .before .before .before .before .before)) (c .before .before .before .before .before .before .before .before .before .before .before .before .before .before .before .before .pre) (ok (c .before .before .before .before .before .before .before .before .before)) (c .before .before .before .before .before .before .before .store-all .ensures)
-          (c .before .before .refresh .last .0) (replicate 4097 1) (λ a h. getD-replicate 4097 a 1 0 (omega arith)) (c .before .before .refresh .ensures);
+      answer-is = told .before .refusal .ensures;
+      refused = λ d. absurd (d (told .if1 .left));
+      accepted = λ _. loaded (b .args .lim) (b .args .area .now) (stored .last .0) (b .args .atoms .0) (cols b) (b .pre) (ok told) (stored .ensures)
+          (renewed .last .0) _ (λ a h. getD-replicate 4097 a 1 0 (omega arith)) (renewed .ensures);
     }
 
 pub load-within-spec : {M : Type 1} → statement M

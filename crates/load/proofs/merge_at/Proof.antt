@@ -28,13 +28,17 @@ part-merge-into-end : tie.Need-part-merge-into-end
 part-merge-into-end c = search needs
 
 merge-into-requires : tie.Need-merge-into-requires
-merge-into-requires c κs = c .before .before .pre .mergeable _ (mid-len (c .before .before .args .at) (c .before .before .args .at + 2 * length (c .before .before .args .weights .now)) (c .before .before .args .area .now) (c .before .before .pre .room) ∙ omega arith)
+merge-into-requires c κs =
+    let b = c .before .before in
+    b .pre .mergeable _ (mid-len (b .args .at) (b .args .at + 2 * length (b .args .weights .now)) (b .args .area .now) (b .pre .room) ∙ omega arith)
 
 same-length : tie.Need-same-length
 same-length c = search needs
 
 returns : tie.Need-returns
-returns c = merged-put (c .before .before .before .before .before .args .area .now) (c .before .before .merge-into .last .0) (c .before .before .before .before .before .args .at) (c .before .before .before .before .before .args .at + 2 * length (c .before .before .before .before .before .args .weights .now)) (omega arith) (omega arith) (omega (arith, c .before .before .merge-into .ensures .size)) (c .before .before .before .before .before .args .kind) (c .before .before .before .before .before .args .weights .now) (c .before .before .before .before .before .args .literals .now) (c .before .before .merge-into .result) refl (c .before .before .merge-into .ensures)
+returns c =
+    let b = c .before .before .before .before .before in
+    merged-put (b .args .area .now) (c .before .before .merge-into .last .0) (b .args .at) (b .args .at + 2 * length (b .args .weights .now)) (omega arith) (omega arith) (omega (arith, c .before .before .merge-into .ensures .size)) (b .args .kind) (b .args .weights .now) (b .args .literals .now) (c .before .before .merge-into .result) refl (c .before .before .merge-into .ensures)
 
 pub merge-at-spec : {M : Type 1} → statement M
 merge-at-spec =

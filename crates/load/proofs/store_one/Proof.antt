@@ -40,10 +40,14 @@ add-at-2 : tie.Need-add-at-2
 add-at-2 c = search needs
 
 merge-at-requires : tie.Need-merge-at-requires
-merge-at-requires c κs = merge-asked (c .before .before .args .area .now) (c .before .before .args .n) (c .before .before .args .all) (c .before .before .args .s) (c .before .before .args .before) (c .before .before .args .head) (c .before .before .args .kind) (c .before .before .args .side) (c .before .before .args .bound) (c .before .before .args .weights .now) (c .before .before .args .literals .now) (c .before .before .pre)
+merge-at-requires c κs =
+    let b = c .before .before in
+    merge-asked (b .args .area .now) (b .args .n) (b .args .all) (b .args .s) (b .args .before) (b .args .head) (b .args .kind) (b .args .side) (b .args .bound) (b .args .weights .now) (b .args .literals .now) (b .pre)
 
 bound-word-requires : tie.Need-bound-word-requires
-bound-word-requires c κs = subst (λ (z : ℤ). natAbs z ≤ 1000000000000000000) (sym (toZ-ofZ w64 (c .before .before .before .before .before .args .bound) (c .before .before .before .before .before .fits .bound))) (fits (c .before .before .before .before .before) .bound-near)
+bound-word-requires c κs =
+    let b = c .before .before .before .before .before in
+    subst (λ (z : ℤ). natAbs z ≤ 1000000000000000000) (sym (toZ-ofZ w64 (b .args .bound) (b .fits .bound))) (fits b .bound-near)
 
 mul-put-four : tie.Need-mul-put-four
 mul-put-four c = let k = fits (c .before .before .before .before .before .before .before) in omega (arith, k .kind-low, k .side-low)
@@ -74,10 +78,16 @@ same-length c = search needs
 
 returns : tie.Need-returns
 returns c =
-    let e : c .before .before .before .before .before .before .before .before .bound-word .result ≡ bias (c .before .before .before .before .before .before .before .before .before .before .before .before .before .before .args .bound) = c .before .before .before .before .before .before .before .before .bound-word .ensures ∙ ap {A = ℤ} bias (toZ-ofZ w64 (c .before .before .before .before .before .before .before .before .before .before .before .before .before .before .args .bound) (c .before .before .before .before .before .before .before .before .before .before .before .before .before .before .fits .bound)) in
-    stored (c .before .before .before .before .before .before .before .before .before .before .before .before .before .before .args .area .now) (c .before .before .before .before .before .before .before .before .before .before .before .before .before .before .args .n) (c .before .before .before .before .before .before .before .before .before .before .before .before .before .before .args .all) (c .before .before .before .before .before .before .before .before .before .before .before .before .before .before .args .s) (c .before .before .before .before .before .before .before .before .before .before .before .before .before .before .args .before) (c .before .before .before .before .before .before .before .before .before .before .before .before .before .before .args .head) (c .before .before .before .before .before .before .before .before .before .before .before .before .before .before .args .kind) (c .before .before .before .before .before .before .before .before .before .before .before .before .before .before .args .side) (c .before .before .before .before .before .before .before .before .before .before .before .before .before .before .args .bound) (c .before .before .before .before .before .before .before .before .before .before .before .before .before .before .args .weights .now) (c .before .before .before .before .before .before .before .before .before .before .before .before .before .before .args .literals .now) (c .before .before .before .before .before .before .before .before .before .before .before .before .before .before .pre) (c .before .before .before .before .before .before .before .before .before .before .before .merge-at .last .0) (c .before .before .before .before .before .before .put-four .last .0) (c .before .before .put-four2 .last .0) (c .before .before .before .before .before .before .before .before .before .before .before .merge-at .result) (c .before .before .before .before .before .before .before .before .before .before .before .merge-at .ensures)
-    (subst (λ (k : ℕ). FourPut (c .before .before .before .before .before .before .before .before .before .before .before .merge-at .last .0) (c .before .before .before .before .before .before .put-four .last .0) (4 * c .before .before .before .before .before .before .before .before .before .before .before .before .before .before .args .n + 8 * c .before .before .before .before .before .before .before .before .before .before .before .before .before .before .args .s) (c .before .before .before .before .before .before .before .before .before .before .before .before .before .before .args .head) (c .before .before .before .before .before .before .before .before .before .before .before .before .before .before .args .kind + 8 * c .before .before .before .before .before .before .before .before .before .before .before .before .before .before .args .side + 16) k (c .before .before .before .before .before .before .before .before .before .before .before .merge-at .result .constant)) e (c .before .before .before .before .before .before .put-four .ensures))
-    (c .before .before .put-four2 .ensures)
+    let b = c .before .before .before .before .before .before .before .before .before .before .before .before .before .before in
+    let merged = c .before .before .before .before .before .before .before .before .before .before .before .merge-at in
+    let word = c .before .before .before .before .before .before .before .before .bound-word in
+    let first = c .before .before .before .before .before .before .put-four in
+    let second = c .before .before .put-four2 in
+    let e : word .result ≡ bias (b .args .bound) = word .ensures ∙ ap {A = ℤ} bias (toZ-ofZ w64 (b .args .bound) (b .fits .bound)) in
+    stored (b .args .area .now) (b .args .n) (b .args .all) (b .args .s) (b .args .before) (b .args .head) (b .args .kind) (b .args .side) (b .args .bound)
+    (b .args .weights .now) (b .args .literals .now) (b .pre) (merged .last .0) (first .last .0) (second .last .0) (merged .result) (merged .ensures)
+    (subst (λ (k : ℕ). FourPut (merged .last .0) (first .last .0) (4 * b .args .n + 8 * b .args .s) (b .args .head) (b .args .kind + 8 * b .args .side + 16) k (merged .result .constant)) e (first .ensures))
+    (second .ensures)
 
 pub store-one-spec : {M : Type 1} → statement M
 store-one-spec =
