@@ -259,7 +259,29 @@ fn ring_of_two() {
     show_trail(&area, after);
 }
 
-// Open until it is refused: the number of levels opened, and the refusal.
+// Open 1,025 times: the number of levels opened, and the last answer.
+fn open_all(area: &mut [u64]) {
+    let mut now = start();
+    let mut opened: u64 = 0;
+    let mut code: u64 = 0;
+    let mut turn = 0;
+    while turn < 1025 {
+        let r = dalelead::open_level(area, now);
+        turn += 1;
+        code = r.code;
+        if code == 0 {
+            opened = turn;
+        }
+        let next = r.counters;
+        now = next;
+    }
+    io::write_all(1, b"levels ");
+    io::print_decimal(1, opened);
+    space();
+    io::print_decimal(1, code);
+    line();
+}
+
 fn levels() {
     let mut area = [0u64; 4];
     let none = [0u64; 0];
@@ -275,25 +297,7 @@ fn levels() {
         &nothing,
         &nothing,
     );
-    let mut now = start();
-    let mut opened: u64 = 0;
-    let mut code: u64 = 0;
-    let mut turn = 0;
-    while turn < 1025 {
-        let r = dalelead::open_level(&mut area, now);
-        turn += 1;
-        code = r.code;
-        if code == 0 {
-            opened = turn;
-        }
-        let next = r.counters;
-        now = next;
-    }
-    io::write_all(1, b"levels ");
-    io::print_decimal(1, opened);
-    space();
-    io::print_decimal(1, code);
-    line();
+    open_all(&mut area);
 }
 
 fn main() {
