@@ -1,15 +1,15 @@
 -- The ways out of a call that may change the area: 9 where it is not whole, an answer that keeps the words, and an answer that moves them.
 -- What keeps does not move, so each way has one clause to show. And the two ways out of a report. Assumes nothing.
-use mathlib.Core.Path.{_≡_, refl}
-use mathlib.Core.Bool.{not}
+use mathlib.Core.Path.{_≡_, refl, sym, ap, subst}
+use mathlib.Core.Bool.{not, _||_}
 use mathlib.Core.List.{List}
 use Prim.Native.Nat.{ℕ}
 use lib.Dec.{T, T-not}
 use Rattle.types.specs.declared.Limits.{Limits}
-use Rattle.book.specs.Table.{Call, refused, Paper, paper, reply}
+use Rattle.book.specs.Table.{Call, Answer, refused, Paper, paper, reply}
 use Rattle.book.specs.Book.{Counters}
 use Rattle.area.specs.Whole.{Whole}
-use Rattle.calls.specs.Calls.{area-state, keeps, Answered, Moved, Acts}
+use Rattle.calls.specs.Calls.{area-state, is-refusal, idle, keeps, Answered, Moved, Acts}
 
 module _ (lim : Limits) (w : List ℕ) (c : Counters) (x : Call) (p : Paper) where
   pub answered-nine : ¬ (Whole lim w c) → p ≡ paper (refused 9 0) → Answered lim w c x p
@@ -42,3 +42,10 @@ module _ (lim : Limits) (w : List ℕ) (c : Counters) (x : Call) (p : Paper) whe
     kept = λ _ k. absurd (T-not (keeps (area-state lim w) x) m k);
     moved = λ _ _. v;
   }
+
+-- refused with no value
+pub acts-refused : (lim : Limits) (w : List ℕ) (c : Counters) (x : Call) → Whole lim w c → (k : ℕ)
+    → reply (area-state lim w) x .answer ≡ refused k 0 → Acts lim w w c c x (paper (refused k 0))
+acts-refused lim w c x h k e =
+    acts-kept lim w c x (paper (refused k 0)) h
+    (subst (λ b. T b) (sym (ap {A = Answer} (λ a. is-refusal a || idle (area-state lim w) x) e)) tt) (sym (ap {A = Answer} paper e))

@@ -6,7 +6,7 @@ use mathlib.Core.List.{List}
 use Prim.Native.Nat.{ℕ, _+_, _/_, _<_, _≤_}
 use native.Mathlib.Omega.{arith}
 use lib.IntN.{ℤ, pos, negsuc}
-use lib.Dec.{leb}
+use lib.Dec.{T, leb}
 use borrow.Author.Tests.{le-leb, lt-leb}
 use Rattle.types.specs.declared.Limits.{Limits}
 use Rattle.numbers.specs.Words.{literal-word}
@@ -20,7 +20,7 @@ use Rattle.calls.specs.Calls.{area-state, is-refusal, Moved, Acts}
 use Rattle.trail.specs.Trail.{Advanceable, Advanced}
 use Rattle.trail.specs.Ready.{Usable}
 use Rattle.trail.proofs.Advancing.{advanced-rows}
-use Rattle.trail.proofs.Acting.{acts-refused, acts-moved}
+use Rattle.calls.proofs.Acting.{acts-refused, acts-moved}
 use Rattle.trail.proofs.OnTrail.{taken-on-trail, open-off-trail}
 
 -- ---- the word of a literal
@@ -114,7 +114,7 @@ module _ (lim : Limits) (w : List ℕ) (c : Counters) (u : Usable lim w c) (l : 
 
         pub give-done : Acts lim w w′ c (counters (c .length-is + 1) (c .level-is)) (give l) (paper done)
         give-done =
-            acts-moved lim w c (give l) (u .whole) w′ (counters (c .length-is + 1) (c .level-is)) (paper done)
-            (ap {A = Outcome} (λ o. is-refusal (o .answer) || false) has-effect)
+            acts-moved lim w c (give l) (paper done) w′ (counters (c .length-is + 1) (c .level-is)) (u .whole)
+            (subst (λ (b : Bool). T (not b)) (sym (ap {A = Outcome} (λ o. is-refusal (o .answer) || false) has-effect)) tt)
             (ap {A = Outcome} (λ o. paper (o .answer)) (sym has-effect))
             (subst (λ (o : Outcome). Moved lim w w′ (counters (c .length-is + 1) (c .level-is)) o) (sym has-effect) moved)

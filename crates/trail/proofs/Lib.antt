@@ -1,4 +1,3 @@
 pub mod Advancing
-pub mod Acting
 pub mod OnTrail
 pub mod Giving

@@ -1,12 +1,12 @@
 -- The check tells whether the area is whole; where it is not the call answers 9 and changes nothing.
 -- Assumes nothing.
-use mathlib.Core.Path.{subst}
+use mathlib.Core.Path.{refl, subst}
 use mir.Syntax.{w64}
 use mir.ValLaws.{toZ-ofZ}
 use Rattle.decide.proofs.Tells.{denied, granted}
-use Rattle.book.specs.Table.{give}
+use Rattle.book.specs.Table.{give, refused, paper}
 use Rattle.calls.specs.Calls.{counted, done-paper, Acts}
-use Rattle.trail.proofs.Acting.{acts-broken}
+use Rattle.calls.proofs.Acting.{acts-broken}
 use borrow.Author.Needs.{needs}
 use Rattle.trail.proofs.give_within.Statement.{statement}
 use Rattle.trail.proofs.give_within.Tie as tie
@@ -18,7 +18,7 @@ same-length : tie.Need-same-length
 same-length c = search needs
 
 returns : tie.Need-returns
-returns c = let s = c .before .before .before .before in acts-broken (s .args .lim) (s .args .area .now) (counted (s .args .counters)) (give (s .args .literal)) (denied (c .before .is-whole .ensures) (c .if1 .taken))
+returns c = let s = c .before .before .before .before in acts-broken (s .args .lim) (s .args .area .now) (counted (s .args .counters)) (give (s .args .literal)) (paper (refused 9 0)) (denied (c .before .is-whole .ensures) (c .if1 .taken)) refl
 
 give-whole-requires : tie.Need-give-whole-requires
 give-whole-requires c κs = let s = c .before .before .before .before .before in (s .args .lim, record { fitting = s .pre; whole = granted (c .before .before .is-whole .ensures) (c .before .if1 .left) })
