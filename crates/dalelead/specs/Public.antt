@@ -9,8 +9,10 @@ use Rattle.types.specs.Limits.{base}
 use Rattle.types.specs.declared.Counters.{Counters}
 use Rattle.book.specs.Table.{give, open-level, take-back, propagate, bounds, list-trail}
 use Rattle.calls.specs.Calls.{counted, done-paper, bounds-paper, listed-paper, Answered, Acts, Lists}
-use Rattle.propagate.specs.Propagate.{propagated-paper, counters-of}
+use Rattle.propagate.specs.Propagate.{propagated-paper, counters-of, Named}
 use Rattle.propagate.specs.declared.Propagated.{Propagated}
+use Rattle.search.specs.Search.{Searches}
+use Rattle.search.specs.declared.Searched.{Searched}
 use Rattle.calls.specs.declared.Done.{Done}
 use Rattle.calls.specs.declared.Bounds.{Bounds}
 use Rattle.calls.specs.declared.Listed.{Listed}
@@ -25,7 +27,11 @@ abbrev pub TakesBack : (w w′ : List ℕ) → Counters → ℕ → Done → Typ
 TakesBack w w′ c k r = Acts base w w′ (counted c) (counted (r .counters)) (take-back k) (done-paper r)
 
 abbrev pub Propagates : (w w′ : List ℕ) → Counters → Propagated → Type 0
-Propagates w w′ c r = Acts base w w′ (counted c) (counted (counters-of r)) propagate (propagated-paper r)
+Propagates w w′ c r = Acts base w w′ (counted c) (counted (counters-of r)) propagate (propagated-paper r) × Named r
+
+-- the search loop over the literals `ls`
+abbrev pub SearchesFor : (w w′ : List ℕ) → Counters → (ls : List ℤ) → Searched → Type 0
+SearchesFor w w′ c ls r = Searches base w w′ (counted c) (counted (r .counters)) ls r
 
 abbrev pub ReadsBounds : (w : List ℕ) → Counters → ℕ → Bounds → Type 0
 ReadsBounds w c k r = Answered base w (counted c) (bounds k) (bounds-paper r)

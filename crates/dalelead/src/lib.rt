@@ -12,7 +12,7 @@ ghost use Prim.Native.Nat.{_+_, _*_};
 ghost use Rattle.types.specs.Limits.{base};
 ghost use Rattle.columns.specs.Columns.{columns};
 ghost use Rattle.load.specs.Load.{Loads};
-ghost use Rattle.dalelead.specs.Public.{Gives, Opens, TakesBack, Propagates, ReadsBounds, ListsTrail};
+ghost use Rattle.dalelead.specs.Public.{Gives, Opens, TakesBack, Propagates, SearchesFor, ReadsBounds, ListsTrail};
 
 // Load: the columns are checked and stored, merged, in the area; the counters start at 0 and 0.
 pub fn load(
@@ -67,6 +67,13 @@ pub fn propagate(area: &mut [u64], counters: Counters) -> propagate::Propagated
     ensures { λ r. ⌜ Propagates (now (area .entry)) (now (area .exit)) counters r ⌝ }
 {
     propagate::propagate_within(area, Limits::base(), counters)
+}
+
+// The search loop: propagate; from still open a level and give the next literal of the list whose atom is open, until the list is done.
+pub fn search(area: &mut [u64], counters: Counters, literals: &[i64]) -> search::Searched
+    ensures { λ r. ⌜ SearchesFor (now (area .entry)) (now (area .exit)) counters (now (literals .entry)) r ⌝ }
+{
+    search::search_within(area, Limits::base(), counters, literals)
 }
 
 // The least and the greatest value of a sentence, for the set as written, over the full assignments that agree with the trail.

@@ -22,7 +22,7 @@ use Rattle.calls.proofs.Acting.{acts-moved}
 use Rattle.propagate.specs.Propagate.{plain, Stopped}
 
 -- the table's run only puts rows on
-run-longer : (js : List Judged) (level steps : ℕ) (rs : List Row) → length rs ≤ length (run js level steps rs .rows)
+pub run-longer : (js : List Judged) (level steps : ℕ) (rs : List Row) → length rs ≤ length (run js level steps rs .rows)
 unfolding run
 run-longer js level zero rs = omega arith
 run-longer js level (suc steps) rs = go (speech 1 js (trail rs)) (λ l k. run-longer js level steps (row l level k ∷ rs))
@@ -32,7 +32,7 @@ run-longer js level (suc steps) rs = go (speech 1 js (trail rs)) (λ l k. run-lo
     go (objects k) f = omega arith
     go (derives k l) f = omega (arith, f l k)
 
-not-refused : (sentence n : ℕ) → T (not (is-refusal (ended sentence n) || false))
+pub not-refused : (sentence n : ℕ) → T (not (is-refusal (ended sentence n) || false))
 not-refused zero n = tt
 not-refused (suc k) n = tt
 

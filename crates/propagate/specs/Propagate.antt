@@ -29,6 +29,12 @@ counters-of (Broken c) = c
 counters-of (Still n c) = c
 counters-of (Conflict k n c) = c
 
+-- a conflict names a sentence, so that it is not read as still
+abbrev pub Named : Propagated → Type 0
+Named (Broken c) = Unit {0}
+Named (Still n c) = Unit {0}
+Named (Conflict k n c) = ¬ (k .0 ≡ 0)
+
 -- where the loop stops, from a whole area w with n atoms at the level: in the words w′ the rows are those of the table's run, with the
 -- sentence in conflict, 0 where none is
 pub record Stopped (lim : Limits) (w w′ : List ℕ) (level len′ sentence : ℕ) : Type 0 where

@@ -8,7 +8,7 @@ ghost use Rattle.book.specs.Table.{propagate};
 ghost use Rattle.calls.specs.Calls.{counted, Acts};
 ghost use Rattle.find.specs.Find.{Searchable};
 ghost use Rattle.find.specs.Asked.{Asked};
-ghost use Rattle.propagate.specs.Propagate.{propagated-paper, counters-of, Stopped};
+ghost use Rattle.propagate.specs.Propagate.{propagated-paper, counters-of, Named, Stopped};
 ghost use Rattle.propagate.specs.Settle.{Settleable, Settled};
 
 // The area is not whole; still, with the number of literals put on; or a conflict, with its sentence and that number. Each with the
@@ -72,7 +72,7 @@ fn run(area: &mut [u64], n: usize, count: usize, len: usize, level: u64) -> End
 // Every step of the loop, from the current level; the level stays.
 pub fn propagate_within(area: &mut [u64], lim: Limits, counters: Counters) -> Propagated
     requires { ⌜ Fitting lim ⌝ }
-    ensures { λ r. ⌜ Acts lim (now (area .entry)) (now (area .exit)) (counted counters) (counted (counters-of r)) propagate (propagated-paper r) ⌝ }
+    ensures { λ r. ⌜ Acts lim (now (area .entry)) (now (area .exit)) (counted counters) (counted (counters-of r)) propagate (propagated-paper r) × Named r ⌝ }
 {
     let len = counters.length;
     let level = counters.level;

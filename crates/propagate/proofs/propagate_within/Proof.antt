@@ -19,7 +19,7 @@ same-length : tie.Need-same-length
 same-length c = search needs
 
 returns : tie.Need-returns
-returns c = acts-broken _ _ _ _ _ (denied (c .before .is-whole .ensures) (c .if1 .taken)) refl
+returns c = (acts-broken _ _ _ _ _ (denied (c .before .is-whole .ensures) (c .if1 .taken)) refl, tt)
 
 -- what the check has told
 whole : (c : tie.Else1) → Whole (c .before .before .before .before .before .args .lim) (c .before .before .before .before .before .args .area .now) (counted (c .before .before .before .before .before .args .counters))
@@ -47,7 +47,7 @@ same-length-2 : tie.Need-same-length-2
 same-length-2 c = search needs
 
 returns-2 : tie.Need-returns-2
-returns-2 c = acts-still _ _ _ _ _ _ _ (whole (c .before .before .before .before .before .before .before .before)) (stopped (c .before .before .before .before)) (c .if2 .taken)
+returns-2 c = (acts-still _ _ _ _ _ _ _ (whole (c .before .before .before .before .before .before .before .before)) (stopped (c .before .before .before .before)) (c .if2 .taken), tt)
 
 sub-t16 : tie.Need-sub-t16
 sub-t16 c = omega (arith, longer _ _ _ _ _ _ _ (whole (c .before .before .before .before .before .before .before .before)) (stopped (c .before .before .before .before)))
@@ -56,7 +56,7 @@ same-length-3 : tie.Need-same-length-3
 same-length-3 c = search needs
 
 returns-3 : tie.Need-returns-3
-returns-3 c = acts-conflict _ _ _ _ _ _ _ (whole (c .before .before .before .before .before .before .before .before)) (stopped (c .before .before .before .before)) (c .if2 .left)
+returns-3 c = (acts-conflict _ _ _ _ _ _ _ (whole (c .before .before .before .before .before .before .before .before)) (stopped (c .before .before .before .before)) (c .if2 .left), c .if2 .left)
 
 pub propagate-within-spec : {M : Type 1} → statement M
 propagate-within-spec =

@@ -1,0 +1,4 @@
+pub mod Passing
+pub mod Moves
+pub mod Trying
+pub mod Turning
