@@ -6,3 +6,4 @@ pub mod Checks
 pub mod Forcing
 pub mod Reaching
 pub mod Ending
+pub mod Meaning
