@@ -15,7 +15,7 @@ use Rattle.meaning.proofs.Represents.{Represents}
 use Rattle.book.specs.Rows.{pick, causes}
 use Rattle.meaning.proofs.Trails.{truth-wanted, agrees-from}
 use Rattle.book.proofs.Number.{In}
-use Rattle.book.proofs.Tests.{Among}
+use Rattle.book.specs.Means.{Among}
 
 abbrev pub Blind : Sentence → Type 0
 Blind s = (σ σ′ : Assignment) → ((a : ℕ) → In a (scope (rule-of s)) → σ′ a ≡ σ a) → Satisfied σ s → Satisfied σ′ s

@@ -16,24 +16,10 @@ use Rattle.book.specs.Table.{Judged, scopes}
 use Rattle.book.specs.Book.{JudgesAll}
 use Rattle.meaning.proofs.Trails.{opposite-holds}
 use Rattle.meaning.proofs.Members.{same→eq, eq→same}
-use Rattle.book.proofs.Number.{IsNumber, numbered-each, In}
-use Rattle.book.proofs.Tests.{Among}
+use Rattle.book.specs.Means.{IsNumber, Among, Some, EntailedBy, AllFalse, Explains, ExplainsConflict}
+use Rattle.book.proofs.Number.{numbered-each, In}
 use Rattle.book.proofs.Sound.{Reasoned, Sits, Sound, consistent}
 use Rattle.book.proofs.Blind.{Blind, causes-from, forced-by-causes, conflict-by-causes}
-
--- some element has the property
-module _ {A : Type 0} (P : A → Type 0) where
-  abbrev pub Some : List A → Type 0
-  Some [] = ⊥
-  Some (x ∷ xs) = P x ⊎ Some xs
-
--- the clause is entailed by the sentence alone
-abbrev pub EntailedBy : Sentence → List ℤ → Type 0
-EntailedBy s ls = (σ : Assignment) → Satisfied σ s → Some (λ m. holds σ m ≡ true) ls
-
--- every literal of the list is false on the trail
-abbrev pub AllFalse : List ℤ → List ℤ → Type 0
-AllFalse t ls = Each (λ m. Among (negℤ m) t) ls
 
 -- ---- negations
 
@@ -109,22 +95,6 @@ scope-numbered (suc zero) (x ∷ ss) (j ∷ js) s m h = m .0 .scope-is ∙ ap (�
 scope-numbered (suc (suc k)) (x ∷ ss) (j ∷ js) s m h = scope-numbered (suc k) ss js s (m .1) h
 
 -- ---- explanations
-
--- a derived literal's explanation: a clause of its reason, whose other literals are false before the literal
-pub record Explains (ss : List Sentence) (rows : List Row) (l : ℤ) (named : List ℤ) : Type 0 where
-  pub sentence : Sentence
-  pub number : IsNumber (row-of l rows .mine .reason) ss sentence
-  pub entailed : EntailedBy sentence named
-  pub others : List ℤ
-  pub list-is : named ≡ l ∷ others
-  pub others-false : AllFalse (trail (row-of l rows .before)) others
-
--- a conflict's: a clause of the sentence, whose literals are all false
-pub record ExplainsConflict (ss : List Sentence) (rows : List Row) (k : ℕ) (named : List ℤ) : Type 0 where
-  pub sentence : Sentence
-  pub number : IsNumber k ss sentence
-  pub entailed : EntailedBy sentence named
-  pub literals-false : AllFalse (trail rows) named
 
 module _ (n : ℕ) (ss : List Sentence) (js : List Judged) (blind : Each Blind ss) (m : JudgesAll ss js) (v : ℕ) (rows : List Row) (h : Sound n ss v rows) where
   pub conflict-explained : (k : ℕ) (s : Sentence) → IsNumber k ss s → Conflict s (trail rows) → ExplainsConflict ss rows k (conflict-explanation (scopes js) rows k)

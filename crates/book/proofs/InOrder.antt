@@ -8,7 +8,7 @@ use mathlib.Core.List.{List, [], _∷_, _++_, reverse, reverse-cons}
 use lib.IntN.{ℤ}
 use lib.Dec.{T}
 use Rattle.book.specs.Rows.{in-order}
-use Rattle.book.proofs.Tests.{Among}
+use Rattle.book.specs.Means.{Among, NoTwice, Subsequence, ends, takes, skips}
 
 -- ---- one literal more at the end
 
@@ -62,10 +62,6 @@ order-all p (l ∷ t) o a h = go (p l) (λ e. subst (λ x. T (p x)) e h) a (λ k
 
 -- ---- none twice
 
-abbrev pub NoTwice : List ℤ → Type 0
-NoTwice [] = Unit {0}
-NoTwice (x ∷ xs) = (¬ (Among x xs)) × NoTwice xs
-
 no-twice-end : (l : ℤ) (xs : List ℤ) → ¬ (Among l xs) → NoTwice xs → NoTwice (xs ++ (l ∷ []))
 no-twice-end l [] n d = ((λ x. x), tt)
 no-twice-end l (x ∷ xs) n d = ((λ k. go (among-end x l xs k)), no-twice-end l xs (λ k. n (inr k)) (d .1))
@@ -84,12 +80,6 @@ order-no-twice p (l ∷ t) d = go (p l) (order-no-twice p t (d .1))
     go false ih = ih
 
 -- ---- in the order of the trail
-
--- some of the elements, in their order
-pub data Subsequence : List ℤ → List ℤ → Type 0 where
-  ends : Subsequence [] []
-  takes : {x : ℤ} {xs ys : List ℤ} → Subsequence xs ys → Subsequence (x ∷ xs) (x ∷ ys)
-  skips : {y : ℤ} {xs ys : List ℤ} → Subsequence xs ys → Subsequence xs (y ∷ ys)
 
 take-end : {xs ys : List ℤ} (l : ℤ) → Subsequence xs ys → Subsequence (xs ++ (l ∷ [])) (ys ++ (l ∷ []))
 take-end l ends = takes ends

@@ -10,15 +10,9 @@ use Rattle.meaning.specs.Meaning.{Sentence, Each}
 use Rattle.book.specs.Rows.{numbered}
 use Rattle.book.specs.Table.{Judged}
 use Rattle.book.specs.Book.{Judges, JudgesAll}
+use Rattle.book.specs.Means.{IsNumber}
 
--- x is number k of the list
 module _ {A : Type 0} where
-  abbrev pub IsNumber : ℕ → List A → A → Type 0
-  IsNumber k [] x = ⊥
-  IsNumber zero (y ∷ ys) x = ⊥
-  IsNumber (suc zero) (y ∷ ys) x = y ≡ x
-  IsNumber (suc (suc k)) (y ∷ ys) x = IsNumber (suc k) ys x
-
   pub numbered-one : (k : ℕ) (xs : List A) (x y : A) → IsNumber k xs x → IsNumber k xs y → x ≡ y
   numbered-one k [] x y h g = absurd h
   numbered-one zero (z ∷ zs) x y h g = absurd h

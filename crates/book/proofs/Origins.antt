@@ -18,23 +18,12 @@ use Rattle.book.specs.Book.{JudgesAll}
 use Rattle.meaning.proofs.Orders.{is-true, is-false}
 use Rattle.meaning.proofs.Members.{same→eq, eq→same}
 use Rattle.book.proofs.Number.{numbered-each, numbered-positive}
-use Rattle.book.proofs.Tests.{Among, among-on, any-told, any-tells}
+use Rattle.book.specs.Means.{Among, NoTwice, Subsequence, GivenNoLater, OriginList}
+use Rattle.book.proofs.Tests.{among-on, any-told, any-tells}
 use Rattle.book.proofs.Sound.{Reasoned, Sound, consistent}
 use Rattle.book.proofs.Blind.{Blind, causes-from, agrees-each, each-agrees, forced-by-causes}
 use Rattle.book.proofs.Explained.{scope-numbered}
-use Rattle.book.proofs.InOrder.{NoTwice, Subsequence, order-from, order-all, order-no-twice, order-ordered}
-
--- o was given, and stands in l's row or in one before it
-pub record GivenNoLater (rows : List Row) (l o : ℤ) : Type 0 where
-  pub no-later : Among o (l ∷ trail (row-of l rows .before))
-  pub given : row-of o rows .mine .reason ≡ 0
-
--- the origins of l, as they are listed
-pub record OriginList (ss : List Sentence) (rows : List Row) (l : ℤ) (named : List ℤ) : Type 0 where
-  pub given : Each (GivenNoLater rows l) named
-  pub entailed : (σ : Assignment) → Agrees σ named → Each (Satisfied σ) ss → holds σ l ≡ true
-  pub once : NoTwice named
-  pub ordered : Subsequence named (reverse (trail rows))
+use Rattle.book.proofs.InOrder.{order-from, order-all, order-no-twice, order-ordered}
 
 -- ---- what the test of an origin tells, over any scopes
 

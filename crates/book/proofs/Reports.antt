@@ -17,13 +17,14 @@ use Rattle.book.specs.Rows.{trail, row-of, numbered}
 use Rattle.book.specs.Table.{Call, give, open-level, take-back, propagate, bounds, explain, explain-conflict, origin, list-trail, between, listed, Judged, State, nobody, propagated, result, no-sentence, stands, was-given, in-conflict, is-conflict, refusals, ended, effect, reply}
 use Rattle.book.specs.Book.{JudgesAll, Book, Counters, book-state}
 use Rattle.meaning.proofs.Orders.{T-true}
-use Rattle.book.proofs.Number.{IsNumber, numbered-exists, judges-numbered, judges-length}
+use Rattle.book.specs.Means.{IsNumber, Bounded, Explains, ExplainsConflict, OriginList}
+use Rattle.book.proofs.Number.{numbered-exists, judges-numbered, judges-length}
 use Rattle.book.proofs.Tests.{stands-told, both-told, Passed, reply-is}
 use Rattle.book.proofs.Sound.{consistent}
 use Rattle.book.proofs.Keeps.{SoundBook}
 use Rattle.book.proofs.Blind.{Blind}
-use Rattle.book.proofs.Explained.{Explains, ExplainsConflict, explained, conflict-explained}
-use Rattle.book.proofs.Origins.{OriginList, originates}
+use Rattle.book.proofs.Explained.{explained, conflict-explained}
+use Rattle.book.proofs.Origins.{originates}
 
 -- ---- the answer of a report
 
@@ -64,13 +65,6 @@ conflict-told : (y : Said) → T (is-conflict y) → y ≡ conflict
 conflict-told silent h = absurd h
 conflict-told conflict h = refl
 conflict-told (forced l) h = absurd h
-
--- the least and the greatest value of sentence k over the trail
-pub record Bounded (ss : List Sentence) (t : List ℤ) (k : ℕ) (v w : Extended) : Type 0 where
-  pub sentence : Sentence
-  pub number : IsNumber k ss sentence
-  pub least : Furthest down sentence t v
-  pub greatest : Furthest up sentence t w
 
 module _ (lim : Limits) (js : List Judged) (b : Book) (m : JudgesAll (b .sentences) js) (h : SoundBook b) (size : ℕ) (d : Counters) where
   abbrev q : State

@@ -14,7 +14,8 @@ use Rattle.meaning.specs.Meaning.{atom, Sentence, Consistent, Forced, On, Each}
 use Rattle.meaning.specs.Merge.{rule-of, scope}
 use Rattle.book.specs.Rows.{Row, row, trail, up-to}
 use Rattle.meaning.proofs.Trails.{put-on}
-use Rattle.book.proofs.Number.{IsNumber, numbered-each, In, in-each}
+use Rattle.book.specs.Means.{IsNumber}
+use Rattle.book.proofs.Number.{numbered-each, In, in-each}
 use Rattle.book.proofs.Inside.{ForcedInside, first-forced-inside}
 use Rattle.book.proofs.Speech.{ForcesFirst, Speaker}
 

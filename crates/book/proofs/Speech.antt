@@ -10,7 +10,8 @@ use Rattle.meaning.specs.Meaning.{Sentence, Consistent, Conflict, Said, silent,
 use Rattle.meaning.specs.Merge.{rule-of, scope}
 use Rattle.book.specs.Table.{Judged, Speech, nothing, objects, derives, spoken, speech}
 use Rattle.book.specs.Book.{JudgesAll}
-use Rattle.book.proofs.Number.{IsNumber, numbered-positive}
+use Rattle.book.specs.Means.{IsNumber}
+use Rattle.book.proofs.Number.{numbered-positive}
 
 -- satisfiable, and no open literal is forced
 abbrev pub SaysNothing : List ℤ → Sentence → Type 0

@@ -11,13 +11,10 @@ use lib.Dec.{T, eqb, eqb-refl}
 use Rattle.meaning.specs.Meaning.{atom, same, On, Each}
 use Rattle.book.specs.Rows.{any}
 use Rattle.book.specs.Table.{State, Call, refused, Refusal, Outcome, unchanged, decided, refusal, refusals, effect, reply}
+use Rattle.book.specs.Means.{Among}
 use Rattle.meaning.proofs.Members.{same→eq, eq→same}
 
 -- ---- membership of literals
-
-abbrev pub Among : ℤ → List ℤ → Type 0
-Among l [] = ⊥
-Among l (x ∷ xs) = (l ≡ x) ⊎ Among l xs
 
 pub among-on : (l : ℤ) (t : List ℤ) → Among l t → On (atom l) t
 among-on l [] h = h

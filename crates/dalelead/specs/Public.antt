@@ -7,7 +7,7 @@ use lib.ListN.{length}
 use lib.IntN.{ℤ}
 use Rattle.types.specs.Limits.{base}
 use Rattle.types.specs.declared.Counters.{Counters}
-use Rattle.book.specs.Table.{give, open-level, take-back, propagate, bounds, list-trail}
+use Rattle.book.specs.Table.{give, open-level, take-back, propagate, bounds, explain, explain-conflict, origin, list-trail}
 use Rattle.calls.specs.Calls.{counted, done-paper, bounds-paper, listed-paper, Answered, Acts, Lists}
 use Rattle.propagate.specs.Propagate.{propagated-paper, counters-of, Named}
 use Rattle.propagate.specs.declared.Propagated.{Propagated}
@@ -37,5 +37,14 @@ abbrev pub ReadsBounds : (w : List ℕ) → Counters → ℕ → Bounds → Type
 ReadsBounds w c k r = Answered base w (counted c) (bounds k) (bounds-paper r)
 
 -- `old` and `new` are the lent list before and after
+abbrev pub ListsExplanation : (w : List ℕ) → Counters → ℤ → (old new : List ℤ) → Listed → Type 0
+ListsExplanation w c l old new r = Lists base w (counted c) (explain l (length old)) old new (listed-paper r)
+
+abbrev pub ListsConflict : (w : List ℕ) → Counters → ℕ → (old new : List ℤ) → Listed → Type 0
+ListsConflict w c k old new r = Lists base w (counted c) (explain-conflict k (length old)) old new (listed-paper r)
+
+abbrev pub ListsOrigin : (w : List ℕ) → Counters → ℤ → (old new : List ℤ) → Listed → Type 0
+ListsOrigin w c l old new r = Lists base w (counted c) (origin l (length old)) old new (listed-paper r)
+
 abbrev pub ListsTrail : (w : List ℕ) → Counters → (old new : List ℤ) → Listed → Type 0
 ListsTrail w c old new r = Lists base w (counted c) (list-trail (length old)) old new (listed-paper r)

@@ -16,7 +16,8 @@ use Rattle.book.specs.Book.{Counters, JudgesAll, judged-all, rules-of, WellForm
 use Rattle.book.proofs.Number.{numbered-exists, judges-numbered, judges-length}
 use Rattle.book.proofs.Tests.{both-told}
 use Rattle.book.proofs.Judged.{all-judged}
-use Rattle.book.proofs.Reports.{Bounded, bounds-is}
+use Rattle.book.specs.Means.{Bounded}
+use Rattle.book.proofs.Reports.{bounds-is}
 use Rattle.area.specs.Layout.{rows-of, theory-of}
 use Rattle.area.specs.Whole.{Whole}
 use Rattle.whole.proofs.Gives.{consistent}

@@ -1,0 +1,119 @@
+-- The claim about every list of calls after an accepted load. Its steps are the public contracts; its answers are the book's.
+-- Assumes nothing.
+use mathlib.Core.Path.{_≡_}
+use mathlib.Core.Bool.{cond}
+use mathlib.Core.Logic.{_⊎_}
+use mathlib.Core.List.{List, [], _∷_, _++_}
+use Prim.Native.Nat.{ℕ, suc, _<_}
+use lib.ListN.{length, take}
+use lib.IntN.{ℤ}
+use lib.Dec.{eqb}
+use Rattle.types.specs.Limits.{base}
+use Rattle.types.specs.declared.Counters as t
+use Rattle.numbers.specs.Words.{unword}
+use Rattle.meaning.specs.Meaning.{Sentence}
+use Rattle.book.specs.Rows.{trail}
+use Rattle.book.specs.Table.{Call, give, open-level, take-back, propagate, bounds, explain, explain-conflict, origin, list-trail, Answer, Paper, paper, list-after, Judged}
+use Rattle.book.specs.Book.{Counters, JudgesAll, judged-all, rules-of, fresh, need, Asked, answers, played}
+use Rattle.book.specs.Means.{Bounded, Explains, ExplainsConflict, OriginList}
+use Rattle.area.specs.Layout.{atoms-of, sentences-of, level-of, rows-of, theory-of, record-at, least-at, greatest-at}
+use Rattle.area.specs.Whole.{Whole}
+use Rattle.calls.specs.declared.Done.{Done}
+use Rattle.calls.specs.declared.Bounds.{Bounds}
+use Rattle.calls.specs.declared.Listed.{Listed}
+use Rattle.calls.specs.Calls.{counted, done-paper, bounds-paper, listed-paper}
+use Rattle.propagate.specs.declared.Propagated.{Propagated}
+use Rattle.propagate.specs.Propagate.{propagated-paper, counters-of}
+use Rattle.columns.specs.Columns.{Columns, all-written, sentences-in}
+use Rattle.columns.specs.declared.Answer as c
+use Rattle.load.specs.Load.{Loads}
+use Rattle.dalelead.specs.Public.{Gives, Opens, TakesBack, Propagates, ReadsBounds, ListsExplanation, ListsConflict, ListsOrigin, ListsTrail}
+
+-- ---- one call
+
+-- what the book is fed, the paper's numbers that were handed back, and the lent result list before and after, empty where there is none
+pub record Event : Type 0 where
+  pub asked : Asked
+  pub numbers : Paper
+  pub old : List ℤ
+  pub new : List ℤ
+
+abbrev pub event : Call → List ℕ → t.Counters → Paper → List ℤ → List ℤ → Event
+event x w d p old new = record { asked = record { call = x; size = length w; counters = counted d }; numbers = p; old = old; new = new }
+
+-- the counters last handed back by a call not refused
+abbrev pub held : Paper → t.Counters → t.Counters → t.Counters
+held p c c′ = cond (eqb (p .code) 0) c′ c
+
+-- a call on the words w with the counters d keeps its public contract: the words afterwards, the event, and the counters that its caller
+-- then holds, who held c
+pub data Step (w : List ℕ) (c d : t.Counters) : List ℕ → Event → t.Counters → Type 0 where
+  gives : {w′ : List ℕ} (l : ℤ) (r : Done) → Gives w w′ d l r → Step w c d w′ (event (give l) w d (done-paper r) [] []) (held (done-paper r) c (r .counters))
+  opens : {w′ : List ℕ} (r : Done) → Opens w w′ d r → Step w c d w′ (event open-level w d (done-paper r) [] []) (held (done-paper r) c (r .counters))
+  takes-back : {w′ : List ℕ} (k : ℕ) (r : Done) → TakesBack w w′ d k r
+      → Step w c d w′ (event (take-back k) w d (done-paper r) [] []) (held (done-paper r) c (r .counters))
+  propagates : {w′ : List ℕ} (r : Propagated) → Propagates w w′ d r
+      → Step w c d w′ (event propagate w d (propagated-paper r) [] []) (held (propagated-paper r) c (counters-of r))
+  reads-bounds : (k : ℕ) (r : Bounds) → ReadsBounds w d k r → Step w c d w (event (bounds k) w d (bounds-paper r) [] []) c
+  lists-explanation : (l : ℤ) (old new : List ℤ) (r : Listed) → ListsExplanation w d l old new r
+      → Step w c d w (event (explain l (length old)) w d (listed-paper r) old new) c
+  lists-conflict : (k : ℕ) (old new : List ℤ) (r : Listed) → ListsConflict w d k old new r
+      → Step w c d w (event (explain-conflict k (length old)) w d (listed-paper r) old new) c
+  lists-origin : (l : ℤ) (old new : List ℤ) (r : Listed) → ListsOrigin w d l old new r
+      → Step w c d w (event (origin l (length old)) w d (listed-paper r) old new) c
+  lists-trail : (old new : List ℤ) (r : Listed) → ListsTrail w d old new r → Step w c d w (event (list-trail (length old)) w d (listed-paper r) old new) c
+
+-- ---- a list of calls, from the words and counters before it to those after it
+
+module _ (n : ℕ) (ss : List Sentence) where
+  pub data Calls : List ℕ → t.Counters → List Event → List ℕ → t.Counters → Type 0 where
+    none : {w : List ℕ} {c : t.Counters} → Calls w c [] w c
+    -- the next call gets any counters, and the words that are there or, cut at their end, fewer than the need
+    next : {w w₁ w₂ : List ℕ} {c d c₁ c₂ : t.Counters} {e : Event} {es : List Event} (part part₁ rest : List ℕ)
+        → w ≡ part ++ rest → (rest ≡ []) ⊎ (length part < need n ss) → Step part c d part₁ e c₁ → w₁ ≡ part₁ ++ rest
+        → Calls w₁ c₁ es w₂ c₂ → Calls w c (e ∷ es) w₂ c₂
+
+-- ---- the claim
+
+abbrev pub asked-in : List Event → List Asked
+asked-in [] = []
+asked-in (e ∷ es) = e .asked ∷ asked-in es
+
+-- what was handed back is the paper's form of these answers
+abbrev pub HandedBack : List Event → List Answer → Type 0
+HandedBack [] [] = Unit {0}
+HandedBack [] (a ∷ rest) = ⊥
+HandedBack (e ∷ es) [] = ⊥
+HandedBack (e ∷ es) (a ∷ rest) = (e .numbers ≡ paper a) × (e .new ≡ list-after a (e .old)) × HandedBack es rest
+
+pub record Claim (n : ℕ) (ss : List Sentence) (es : List Event) (w : List ℕ) (c : t.Counters) : Type 0 where
+  -- the book's answers, whoever judges by full assignments; and such a judgement exists
+  pub answers-are : (js : List Judged) → JudgesAll ss js → HandedBack es (answers base js (fresh n ss) (asked-in es))
+  pub judged : JudgesAll ss (judged-all (rules-of ss))
+  -- the area, and its trail
+  pub whole : Whole base w (counted c)
+  pub atoms : atoms-of w ≡ n
+  pub theory : theory-of w ≡ rules-of ss
+  pub rows : (js : List Judged) → JudgesAll ss js → rows-of w ≡ played base js (fresh n ss) (asked-in es) .rows
+  pub level : (js : List Judged) → JudgesAll ss js → level-of w ≡ played base js (fresh n ss) (asked-in es) .level
+  pub counters : counted c ≡ record { length-is = length (rows-of w); level-is = level-of w }
+  -- the stored bounds of every sentence
+  pub bounds-are : (s : ℕ) → s < length ss → Bounded ss (trail (rows-of w)) (suc s) (unword (least-at w (record-at n s))) (unword (greatest-at w (record-at n s)))
+  -- every explanation that is not refused
+  pub explained : (l : ℤ) (old new : List ℤ) (r : Listed) → ListsExplanation w c l old new r → r .code ≡ 0 → Explains ss (rows-of w) l (take (r .value) new)
+  pub conflict-explained : (k : ℕ) (old new : List ℤ) (r : Listed) → ListsConflict w c k old new r → r .code ≡ 0
+      → ExplainsConflict ss (rows-of w) k (take (r .value) new)
+  -- every origin report has an answer, and one that is not refused names origins
+  pub origin-answered : (l : ℤ) (old : List ℤ) → (new : List ℤ) × (r : Listed) × ListsOrigin w c l old new r
+  pub originated : (l : ℤ) (old new : List ℤ) (r : Listed) → ListsOrigin w c l old new r → r .code ≡ 0 → OriginList ss (rows-of w) l (take (r .value) new)
+
+-- the counters of a load
+abbrev pub Zero : t.Counters → Type 0
+Zero c = counted c ≡ record { length-is = 0; level-is = 0 }
+
+-- every list of calls after an accepted load, which hands on the words w
+abbrev pub History : Type 0
+History =
+    (w₀ w : List ℕ) (n : ℕ) (columns : Columns) (r : c.Answer) (zero : t.Counters) → Loads base w₀ w n columns r → r .code ≡ 0 → Zero zero
+    → (es : List Event) (w′ : List ℕ) (c : t.Counters) → Calls n (sentences-in (all-written columns)) w zero es w′ c
+    → Claim n (sentences-in (all-written columns)) es w′ c
