@@ -1,0 +1,7 @@
+pub mod Sentences
+pub mod Replies
+pub mod Ways
+pub mod Stands
+pub mod Steps
+pub mod Claim
+pub mod Examples

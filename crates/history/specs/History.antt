@@ -16,7 +16,7 @@ use Rattle.book.specs.Rows.{trail}
 use Rattle.book.specs.Table.{Call, give, open-level, take-back, propagate, bounds, explain, explain-conflict, origin, list-trail, Answer, Paper, paper, list-after, Judged}
 use Rattle.book.specs.Book.{Counters, JudgesAll, judged-all, rules-of, fresh, need, Asked, answers, played}
 use Rattle.book.specs.Means.{Bounded, Explains, ExplainsConflict, OriginList}
-use Rattle.area.specs.Layout.{atoms-of, sentences-of, level-of, rows-of, theory-of, record-at, least-at, greatest-at}
+use Rattle.area.specs.Layout.{atoms-of, level-of, rows-of, theory-of, record-at, least-at, greatest-at}
 use Rattle.area.specs.Whole.{Whole}
 use Rattle.calls.specs.declared.Done.{Done}
 use Rattle.calls.specs.declared.Bounds.{Bounds}

@@ -1,0 +1,163 @@
+-- The claim about every list of calls after an accepted load. The area follows the book step by step; at the end its words give the
+-- bounds, and a report on it is a report of the book, whose meaning is known. Whoever judges by full assignments, the book's answers are
+-- the same. Assumes nothing.
+use mathlib.Core.Path.{_≡_, refl, sym, ap, ap₂, _∙_, subst}
+use mathlib.Core.List.{List}
+use Prim.Native.Nat.{ℕ, suc, _-_, _<_}
+use native.Mathlib.Omega.{arith}
+use lib.ListN.{length, take, drop}
+use lib.Seq.{take-append-seam}
+use lib.IntN.{ℤ}
+use Rattle.types.specs.Limits.{base}
+use Rattle.types.specs.declared.Counters as t
+use Rattle.numbers.specs.Words.{unword}
+use Rattle.meaning.specs.Meaning.{Sentence, Each}
+use Rattle.book.specs.Rows.{Row, trail}
+use Rattle.book.specs.Table.{Call, explain, explain-conflict, origin, Answer, listed, Paper, paper, list-after, Judged, State, result, Outcome, effect, reply}
+use Rattle.book.specs.Book.{Counters, JudgesAll, WellFormed, Book, fresh, book-state, answers, played}
+use Rattle.book.specs.Means.{Bounded, Explains, ExplainsConflict, OriginList}
+use Rattle.book.proofs.Tests.{reply-is}
+use Rattle.book.proofs.Judged.{all-judged, all-scoped, all-blind}
+use Rattle.book.proofs.Sound.{Scoped, Sound}
+use Rattle.book.proofs.Reports.{explain-means, explain-conflict-means, origin-means}
+use Rattle.book.proofs.Same.{answers-same, played-same}
+use Rattle.area.specs.Layout.{atoms-of, level-of, rows-of, record-at, least-at, greatest-at}
+use Rattle.area.specs.Whole.{Whole}
+use Rattle.calls.specs.declared.Listed.{Listed}
+use Rattle.calls.specs.Calls.{counted, listed-paper, area-state, Lists}
+use Rattle.calls.proofs.Acting.{answered-whole}
+use Rattle.search.proofs.Moves.{rows-count}
+use Rattle.reports.proofs.Replies.{bounds-stored}
+use Rattle.reports.proofs.Meaning.{bounds-mean}
+use Rattle.columns.specs.Columns.{all-written, sentences-in}
+use Rattle.columns.specs.declared.Answer as load
+use Rattle.load.proofs.Base.{base-fits}
+use Rattle.dalelead.specs.Public.{ListsExplanation, ListsConflict, ListsOrigin}
+use Rattle.history.specs.History.{Event, asked-in, HandedBack, Claim, History}
+use Rattle.history.proofs.Sentences.{loaded-well-formed, sentences-are}
+use Rattle.history.proofs.Replies.{reply-effect}
+use Rattle.history.proofs.Stands.{computed, book-of, Stands, whole-fits, state-is}
+use Rattle.history.proofs.Steps.{Followed, followed}
+
+-- ---- reports on an area that stands for the book
+
+-- a list call's numbers, as they are handed back
+abbrev printed : Answer → Listed
+printed a = record { code = paper a .code; value = paper a .value }
+
+module _ (n : ℕ) (ss : List Sentence) (well : Each (WellFormed n) ss) (w : List ℕ) (c : t.Counters) (s : Stands n ss w (counted c)) where
+  abbrev q : State
+  q = area-state base w
+
+  abbrev book-q : State
+  book-q = book-state base (computed ss) (book-of n ss w) (length w) (counted c)
+
+  book-state-is : q ≡ book-q
+  book-state-is = state-is n ss w (counted c) s (length w) (counted c) (whole-fits n ss w (counted c) s (counted c) (s .whole))
+
+  bounds-right : (k : ℕ) → k < length ss → Bounded ss (trail (rows-of w)) (suc k) (unword (least-at w (record-at n k))) (unword (greatest-at w (record-at n k)))
+  bounds-right k l =
+      let at = record-at (atoms-of w) (suc k - 1) in
+      let e : suc k - 1 ≡ k = omega arith in
+      let b = bounds-stored base w (counted c) base-fits (s .whole) (suc k) (omega arith) (omega (arith, sentences-are w n ss (s .atoms) (s .theory))) in
+      subst (λ i. Bounded ss (trail (rows-of w)) (suc k) (unword (least-at w i)) (unword (greatest-at w i))) (ap₂ {A = ℕ} {B = ℕ} record-at (s .atoms) e)
+      (bounds-mean base w (counted c) (s .whole) n ss well (s .theory) (suc k) (unword (least-at w at)) (unword (greatest-at w at)) b)
+
+  -- a list that is handed back is the book's answer, and stands in front: what holds of the book's answer holds of it
+  module _ (x : Call) (old new : List ℤ) (r : Listed) (a : Lists base w (counted c) x old new (listed-paper r)) (z : r .code ≡ 0)
+      (f : effect q x .answer ≡ listed (result q x)) where
+    listed-here : reply q x .answer ≡ listed (result q x)
+    listed-here = ap {A = Outcome} (λ o. o .answer) (reply-effect q x (ap {A = Paper} (λ p. p .code) (sym (a .answer .told (s .whole))) ∙ z)) ∙ f
+
+    taken : take (r .value) new ≡ result q x
+    taken =
+        let v : r .value ≡ length (result q x) = ap {A = Paper} (λ p. p .value) (a .answer .told (s .whole)) ∙ ap {A = Answer} (λ y. paper y .value) listed-here in
+        let l : new ≡ list-after (listed (result q x)) old = a .written (s .whole) ∙ ap {A = Answer} (λ y. list-after y old) listed-here in
+        ap₂ {A = ℕ} {B = List ℤ} take v l ∙ take-append-seam (result q x) (drop (length (result q x)) old)
+
+    reported : (P : List ℤ → Type 0) → ((ls : List ℤ) → reply book-q x .answer ≡ listed ls → P ls) → P (take (r .value) new)
+    reported P means = subst P (sym taken) (means (result q x) (ap {A = State} (λ y. reply y x .answer) (sym book-state-is) ∙ listed-here))
+
+  explained-right : (l : ℤ) (old new : List ℤ) (r : Listed) → ListsExplanation w c l old new r → r .code ≡ 0 → Explains ss (rows-of w) l (take (r .value) new)
+  explained-right l old new r a z =
+      reported (explain l (length old)) old new r a z refl (Explains ss (rows-of w) l)
+      (explain-means base (computed ss) (book-of n ss w) (all-judged n ss well) (s .sound) (length w) (counted c) (all-blind n ss well) l (length old))
+
+  conflict-right : (k : ℕ) (old new : List ℤ) (r : Listed) → ListsConflict w c k old new r → r .code ≡ 0 → ExplainsConflict ss (rows-of w) k (take (r .value) new)
+  conflict-right k old new r a z =
+      reported (explain-conflict k (length old)) old new r a z refl (ExplainsConflict ss (rows-of w) k)
+      (explain-conflict-means base (computed ss) (book-of n ss w) (all-judged n ss well) (s .sound) (length w) (counted c) (all-blind n ss well) k (length old))
+
+  origin-right : (l : ℤ) (old new : List ℤ) (r : Listed) → ListsOrigin w c l old new r → r .code ≡ 0 → OriginList ss (rows-of w) l (take (r .value) new)
+  origin-right l old new r a z =
+      reported (origin l (length old)) old new r a z refl (OriginList ss (rows-of w) l)
+      (origin-means base (computed ss) (book-of n ss w) (all-judged n ss well) (s .sound) (length w) (counted c) (all-blind n ss well) l (length old))
+
+  origin-has-answer : (l : ℤ) (old : List ℤ) → (new : List ℤ) × (r : Listed) × ListsOrigin w c l old new r
+  origin-has-answer l old =
+      let x = origin l (length old) in
+      let a = reply q x .answer in
+      let e = reply-is (λ o. listed-paper (printed (o .answer)) ≡ paper (o .answer)) q x (λ i k. refl) (λ p. refl) in (
+        list-after a old,
+        printed a,
+        record {
+          answer = answered-whole base w (counted c) x (listed-paper (printed a)) (s .whole) e;
+          broken = λ b. absurd (b (s .whole));
+          written = λ _. refl;
+        },
+      )
+
+-- ---- the claim
+
+module _ (n : ℕ) (ss : List Sentence) (well : Each (WellFormed n) ss) (w w′ : List ℕ) (c : t.Counters) (es : List Event) where
+  claimed : book-of n ss w ≡ fresh n ss → Followed n ss well w es w′ c → Claim n ss es w′ c
+  claimed e f = record {
+    answers-are = λ js m. subst (HandedBack es) (answers-same base (fresh n ss) (computed ss) js scoped judges m tt (asked-in es)) answers-computed;
+    judged = judges;
+    whole = s .whole;
+    atoms = s .atoms;
+    theory = s .theory;
+    rows = λ js m. ap {A = Book} (λ b. b .rows) (book-is js m);
+    level = λ js m. ap {A = Book} (λ b. b .level) (book-is js m);
+    counters =
+        ap₂ {A = ℕ} {B = ℕ} {C = Counters} (λ k v. record { length-is = k; level-is = v })
+        (sym (rows-count base w′ (counted c) (s .whole))) (sym (s .whole .level-is));
+    bounds-are = bounds-right n ss well w′ c s;
+    explained = explained-right n ss well w′ c s;
+    conflict-explained = conflict-right n ss well w′ c s;
+    origin-answered = origin-has-answer n ss well w′ c s;
+    originated = origin-right n ss well w′ c s;
+  }
+    where
+      s : Stands n ss w′ (counted c)
+      s = f .stands
+
+      judges : JudgesAll ss (computed ss)
+      judges = all-judged n ss well
+
+      scoped : Each (Scoped n) ss
+      scoped = all-scoped n ss well
+
+      answers-computed : HandedBack es (answers base (computed ss) (fresh n ss) (asked-in es))
+      answers-computed = subst (λ b. HandedBack es (answers base (computed ss) b (asked-in es))) e (f .handed)
+
+      book-is : (js : List Judged) → JudgesAll ss js → book-of n ss w′ ≡ played base js (fresh n ss) (asked-in es)
+      book-is js m =
+          sym (f .book)
+          ∙ ap {A = Book} (λ b. played base (computed ss) b (asked-in es)) e
+          ∙ played-same base (fresh n ss) (computed ss) js scoped judges m tt (asked-in es)
+
+pub history : History
+history w₀ w n columns r zero loads code z es w′ c calls =
+    let ss = sentences-in (all-written columns) in
+    let l = loads .accepted code in
+    let well = loaded-well-formed base (length w₀) n columns (ap {A = load.Answer} (λ a. a .code) (sym (loads .answer-is)) ∙ code) in
+    claimed n ss well w w′ c es
+    (ap₂ {A = ℕ} {B = List Row} {C = Book} (λ v rs. record { atoms = n; sentences = ss; level = v; rows = rs }) (l .level) (l .rows))
+    (followed n ss well calls
+    (record {
+      whole = subst (Whole base w) (sym z) (l .whole);
+      atoms = l .atoms;
+      theory = l .theory;
+      sound = subst (λ rs. Sound n ss (level-of w) rs) (sym (l .rows)) tt;
+    }))

@@ -1,0 +1,117 @@
+-- One call after an area that stands for the book: its answer and its list are the book's, and what it leaves stands for the book after
+-- it. Then a list of calls, by induction. Assumes nothing.
+use mathlib.Core.Path.{_≡_, refl, sym, ap, ap₂, _∙_, subst}
+use mathlib.Core.Bool.{Bool, true, false, not, true≢false}
+use mathlib.Core.Logic.{_⊎_, inl, inr}
+use mathlib.Core.List.{List, [], _++_, append-nil}
+use Prim.Native.Nat.{ℕ, _<_}
+use native.Mathlib.Omega.{arith}
+use lib.ListN.{length}
+use Rattle.types.specs.Limits.{base}
+use Rattle.types.specs.declared.Counters as t
+use Rattle.meaning.specs.Meaning.{Sentence, Each}
+use Rattle.book.specs.Rows.{Row}
+use Rattle.book.specs.Table.{refused, paper, list-after, State, Outcome, unchanged, reply}
+use Rattle.book.specs.Book.{WellFormed, Book, Asked, need, fits, book-state, turn, after, answers, played}
+use Rattle.book.proofs.Judged.{all-judged, all-scoped}
+use Rattle.book.proofs.Sound.{up-to-all}
+use Rattle.book.proofs.Keeps.{SoundBook, turn-sound}
+use Rattle.area.specs.Layout.{level-of, rows-of}
+use Rattle.area.specs.Whole.{Whole}
+use Rattle.calls.specs.Calls.{counted, area-state}
+use Rattle.history.specs.History.{Event, Step, Calls, none, next, asked-in, HandedBack}
+use Rattle.history.proofs.Replies.{nine}
+use Rattle.history.proofs.Ways.{Way, way, asked-is, way-broken, way-whole}
+use Rattle.history.proofs.Stands.{computed, book-of, Stands, whole-fits, fits-whole, state-is, cut-fails, cut-broken}
+
+module _ (n : ℕ) (ss : List Sentence) (well : Each (WellFormed n) ss) where
+  -- the book's turn at what the call was asked, from the area's level and rows
+  abbrev turned : List ℕ → Asked → Outcome
+  turned w a = turn base (computed ss) (book-of n ss w) a
+
+  pub record Stepped (w w′ : List ℕ) (e : Event) (c′ : t.Counters) : Type 0 where
+    pub stands : Stands n ss w′ (counted c′)
+    pub numbers : e .numbers ≡ paper (turned w (e .asked) .answer)
+    pub list : e .new ≡ list-after (turned w (e .asked) .answer) (e .old)
+    pub book : after (book-of n ss w) (turned w (e .asked)) ≡ book-of n ss w′
+
+  -- ---- 9: the book is as it was
+
+  module _ (w w′ part part′ : List ℕ) (c d c′ : t.Counters) (e : Event) (s : Stands n ss w (counted c)) where
+    step-broken : (part′ ≡ part → w′ ≡ w) → ¬ (Whole base part (counted d)) → fits (book-of n ss w) (length part) (counted d) ≡ false
+        → Way part c d part′ e c′ → Stepped w w′ e c′
+    step-broken f b fails p =
+        let k = way-broken b p in
+        let same : w′ ≡ w = f (k .area) in
+        let o : turned w (e .asked) ≡ unchanged (area-state base w) (refused 9 0) =
+        ap {A = Asked} (turned w) (asked-is p)
+        ∙ nine (book-state base (computed ss) (book-of n ss w) (length part) (counted d)) (e .asked .call) (ap {A = Bool} not fails) in
+        record {
+          stands = subst (λ v. Stands n ss v (counted c′)) (sym same) (subst (λ v. Stands n ss w (counted v)) (sym (k .counters)) s);
+          numbers = k .numbers ∙ ap {A = Outcome} (λ y. paper (y .answer)) (sym o);
+          list = k .list ∙ ap {A = Outcome} (λ y. list-after (y .answer) (e .old)) (sym o);
+          book = ap {A = Outcome} (after (book-of n ss w)) o ∙ ap {A = List ℕ} (book-of n ss) (sym same);
+        }
+
+  -- ---- whole: the table looks at one state
+
+  step-whole : (w w′ : List ℕ) (c d c′ : t.Counters) (e : Event) → Stands n ss w (counted c) → fits (book-of n ss w) (length w) (counted d) ≡ true
+      → Way w c d w′ e c′ → Stepped w w′ e c′
+  step-whole w w′ c d c′ e s f p =
+      let g = fits-whole n ss w (counted c) s (counted d) f in
+      let r = way-whole w c d (s .whole) g (up-to-all n ss (level-of w) (level-of w) (rows-of w) (omega arith) (s .sound)) p in
+      let o : reply (area-state base w) (e .asked .call) ≡ turned w (e .asked) =
+      ap {A = State} (λ q. reply q (e .asked .call)) (state-is n ss w (counted c) s (length w) (counted d) f) ∙ ap {A = Asked} (turned w) (sym (asked-is p)) in
+      let b : after (book-of n ss w) (turned w (e .asked)) ≡ book-of n ss w′ =
+      ap {A = Outcome} (after (book-of n ss w)) (sym o)
+      ∙ ap₂ {A = ℕ} {B = List Row} {C = Book} (λ v rs. record { atoms = n; sentences = ss; level = v; rows = rs }) (sym (r .moved .level)) (sym (r .moved .rows)) in
+      record {
+        stands = record {
+          whole = r .moved .whole;
+          atoms = r .moved .atoms ∙ s .atoms;
+          theory = r .moved .theory ∙ s .theory;
+          sound = subst SoundBook b (turn-sound base (computed ss) (book-of n ss w) (all-scoped n ss well) (all-judged n ss well) (s .sound) (e .asked));
+        };
+        numbers = r .numbers ∙ ap {A = Outcome} (λ y. paper (y .answer)) o;
+        list = r .list ∙ ap {A = Outcome} (λ y. list-after (y .answer) (e .old)) o;
+        book = b;
+      }
+
+  -- ---- any call
+
+  step-uncut : (w w′ : List ℕ) (c d c′ : t.Counters) (e : Event) → Stands n ss w (counted c) → Way w c d w′ e c′ → Stepped w w′ e c′
+  step-uncut w w′ c d c′ e s p = go (fits (book-of n ss w) (length w) (counted d)) refl
+    where
+      go : (b : Bool) → fits (book-of n ss w) (length w) (counted d) ≡ b → Stepped w w′ e c′
+      go true f = step-whole w w′ c d c′ e s f p
+      go false f = step-broken w w′ w w′ c d c′ e s (λ x. x) (λ h. true≢false (sym (whole-fits n ss w (counted c) s (counted d) h) ∙ f)) f p
+
+  step : (w w′ part part′ rest : List ℕ) (c d c′ : t.Counters) (e : Event) → Stands n ss w (counted c) → w ≡ part ++ rest → (rest ≡ []) ⊎ (length part < need n ss)
+      → Step part c d part′ e c′ → w′ ≡ part′ ++ rest → Stepped w w′ e c′
+  step w w′ part part′ rest c d c′ e s i (inl x) p j =
+      let uncut : (v : List ℕ) → v ++ rest ≡ v = λ v. ap {A = List ℕ} (λ y. v ++ y) x ∙ append-nil v in
+      subst (λ v. Stepped w v e c′) (sym (j ∙ uncut part′))
+      (step-uncut w part′ c d c′ e s (subst (λ v. Way v c d part′ e c′) (sym (i ∙ uncut part)) (way p)))
+  step w w′ part part′ rest c d c′ e s i (inr l) p j =
+      step-broken w w′ part part′ c d c′ e s (λ x. j ∙ ap {A = List ℕ} (λ v. v ++ rest) x ∙ sym i)
+      (cut-broken n ss part rest (counted c) (counted d) (subst (λ v. Stands n ss v (counted c)) i s) l)
+      (cut-fails n ss w (length part) (counted d) l) (way p)
+
+  -- ---- a list of calls
+
+  pub record Followed (w : List ℕ) (es : List Event) (w′ : List ℕ) (c′ : t.Counters) : Type 0 where
+    pub stands : Stands n ss w′ (counted c′)
+    pub handed : HandedBack es (answers base (computed ss) (book-of n ss w) (asked-in es))
+    pub book : played base (computed ss) (book-of n ss w) (asked-in es) ≡ book-of n ss w′
+
+  pub followed : {w w′ : List ℕ} {c c′ : t.Counters} {es : List Event} → Calls n ss w c es w′ c′ → Stands n ss w (counted c) → Followed w es w′ c′
+  unfolding answers played
+  followed none s = record { stands = s; handed = tt; book = refl }
+  followed {w} (next {w₁ = w₁} {c = c} {d = d} {c₁ = c₁} {e = e} {es = es} part part₁ rest i k p j more) s =
+      let x = step w w₁ part part₁ rest c d c₁ e s i k p j in
+      let y = followed more (x .stands) in
+      record {
+        stands = y .stands;
+        handed = (x .numbers, x .list, subst (λ b. HandedBack es (answers base (computed ss) b (asked-in es))) (sym (x .book)) (y .handed));
+        book = ap {A = Book} (λ b. played base (computed ss) b (asked-in es)) (x .book) ∙ y .book;
+      }
