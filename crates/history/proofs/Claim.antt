@@ -22,7 +22,6 @@ use Rattle.book.proofs.Sound.{Scoped, Sound}
 use Rattle.book.proofs.Reports.{explain-means, explain-conflict-means, origin-means}
 use Rattle.book.proofs.Same.{answers-same, played-same}
 use Rattle.area.specs.Layout.{atoms-of, level-of, rows-of, record-at, least-at, greatest-at}
-use Rattle.area.specs.Whole.{Whole}
 use Rattle.calls.specs.declared.Listed.{Listed}
 use Rattle.calls.specs.Calls.{counted, listed-paper, area-state, Lists}
 use Rattle.calls.proofs.Acting.{answered-whole}
@@ -110,13 +109,15 @@ module _ (n : ℕ) (ss : List Sentence) (well : Each (WellFormed n) ss) (w : Lis
 -- ---- the claim
 
 module _ (n : ℕ) (ss : List Sentence) (well : Each (WellFormed n) ss) (w w′ : List ℕ) (c : t.Counters) (es : List Event) where
-  claimed : book-of n ss w ≡ fresh n ss → Followed n ss well w es w′ c → Claim n ss es w′ c
+  claimed : book-of n ss w ≡ fresh n ss → Followed n ss well w es w′ c → Claim n ss w es w′ c
   claimed e f = record {
     answers-are = λ js m. subst (HandedBack es) (answers-same base (fresh n ss) (computed ss) js scoped judges m tt (asked-in es)) answers-computed;
     judged = judges;
     whole = s .whole;
     atoms = s .atoms;
     theory = s .theory;
+    size = f .size;
+    past-need = f .past-need;
     rows = λ js m. ap {A = Book} (λ b. b .rows) (book-is js m);
     level = λ js m. ap {A = Book} (λ b. b .level) (book-is js m);
     counters =
@@ -148,7 +149,7 @@ module _ (n : ℕ) (ss : List Sentence) (well : Each (WellFormed n) ss) (w w′ 
           ∙ played-same base (fresh n ss) (computed ss) js scoped judges m tt (asked-in es)
 
 pub history : History
-history w₀ w n columns r zero loads code z es w′ c calls =
+history w₀ w n columns r loads code es w′ c calls =
     let ss = sentences-in (all-written columns) in
     let l = loads .accepted code in
     let well = loaded-well-formed base (length w₀) n columns (ap {A = load.Answer} (λ a. a .code) (sym (loads .answer-is)) ∙ code) in
@@ -156,7 +157,7 @@ history w₀ w n columns r zero loads code z es w′ c calls =
     (ap₂ {A = ℕ} {B = List Row} {C = Book} (λ v rs. record { atoms = n; sentences = ss; level = v; rows = rs }) (l .level) (l .rows))
     (followed n ss well calls
     (record {
-      whole = subst (Whole base w) (sym z) (l .whole);
+      whole = l .whole;
       atoms = l .atoms;
       theory = l .theory;
       sound = subst (λ rs. Sound n ss (level-of w) rs) (sym (l .rows)) tt;

@@ -4,4 +4,3 @@ pub mod Ways
 pub mod Stands
 pub mod Steps
 pub mod Claim
-pub mod Examples

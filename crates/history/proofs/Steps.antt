@@ -6,7 +6,7 @@ use mathlib.Core.Logic.{_⊎_, inl, inr}
 use mathlib.Core.List.{List, [], _++_, append-nil}
 use Prim.Native.Nat.{ℕ, _<_}
 use native.Mathlib.Omega.{arith}
-use lib.ListN.{length}
+use lib.ListN.{length, drop}
 use Rattle.types.specs.Limits.{base}
 use Rattle.types.specs.declared.Counters as t
 use Rattle.meaning.specs.Meaning.{Sentence, Each}
@@ -20,6 +20,7 @@ use Rattle.area.specs.Layout.{level-of, rows-of}
 use Rattle.area.specs.Whole.{Whole}
 use Rattle.calls.specs.Calls.{counted, area-state}
 use Rattle.history.specs.History.{Event, Step, Calls, none, next, asked-in, HandedBack}
+use Rattle.history.proofs.Sentences.{need-is}
 use Rattle.history.proofs.Replies.{nine}
 use Rattle.history.proofs.Ways.{Way, way, asked-is, way-broken, way-whole}
 use Rattle.history.proofs.Stands.{computed, book-of, Stands, whole-fits, fits-whole, state-is, cut-fails, cut-broken}
@@ -31,6 +32,8 @@ module _ (n : ℕ) (ss : List Sentence) (well : Each (WellFormed n) ss) where
 
   pub record Stepped (w w′ : List ℕ) (e : Event) (c′ : t.Counters) : Type 0 where
     pub stands : Stands n ss w′ (counted c′)
+    pub size : length w′ ≡ length w
+    pub past-need : drop (need n ss) w′ ≡ drop (need n ss) w
     pub numbers : e .numbers ≡ paper (turned w (e .asked) .answer)
     pub list : e .new ≡ list-after (turned w (e .asked) .answer) (e .old)
     pub book : after (book-of n ss w) (turned w (e .asked)) ≡ book-of n ss w′
@@ -48,6 +51,8 @@ module _ (n : ℕ) (ss : List Sentence) (well : Each (WellFormed n) ss) where
         ∙ nine (book-state base (computed ss) (book-of n ss w) (length part) (counted d)) (e .asked .call) (ap {A = Bool} not fails) in
         record {
           stands = subst (λ v. Stands n ss v (counted c′)) (sym same) (subst (λ v. Stands n ss w (counted v)) (sym (k .counters)) s);
+          size = ap {A = List ℕ} length same;
+          past-need = ap {A = List ℕ} (drop (need n ss)) same;
           numbers = k .numbers ∙ ap {A = Outcome} (λ y. paper (y .answer)) (sym o);
           list = k .list ∙ ap {A = Outcome} (λ y. list-after (y .answer) (e .old)) (sym o);
           book = ap {A = Outcome} (after (book-of n ss w)) o ∙ ap {A = List ℕ} (book-of n ss) (sym same);
@@ -72,6 +77,8 @@ module _ (n : ℕ) (ss : List Sentence) (well : Each (WellFormed n) ss) where
           theory = r .moved .theory ∙ s .theory;
           sound = subst SoundBook b (turn-sound base (computed ss) (book-of n ss w) (all-scoped n ss well) (all-judged n ss well) (s .sound) (e .asked));
         };
+        size = r .moved .size;
+        past-need = subst (λ k. drop k w′ ≡ drop k w) (need-is w n ss (s .atoms) (s .theory)) (r .moved .rest);
         numbers = r .numbers ∙ ap {A = Outcome} (λ y. paper (y .answer)) o;
         list = r .list ∙ ap {A = Outcome} (λ y. list-after (y .answer) (e .old)) o;
         book = b;
@@ -101,17 +108,21 @@ module _ (n : ℕ) (ss : List Sentence) (well : Each (WellFormed n) ss) where
 
   pub record Followed (w : List ℕ) (es : List Event) (w′ : List ℕ) (c′ : t.Counters) : Type 0 where
     pub stands : Stands n ss w′ (counted c′)
+    pub size : length w′ ≡ length w
+    pub past-need : drop (need n ss) w′ ≡ drop (need n ss) w
     pub handed : HandedBack es (answers base (computed ss) (book-of n ss w) (asked-in es))
     pub book : played base (computed ss) (book-of n ss w) (asked-in es) ≡ book-of n ss w′
 
   pub followed : {w w′ : List ℕ} {c c′ : t.Counters} {es : List Event} → Calls n ss w c es w′ c′ → Stands n ss w (counted c) → Followed w es w′ c′
   unfolding answers played
-  followed none s = record { stands = s; handed = tt; book = refl }
+  followed none s = record { stands = s; size = refl; past-need = refl; handed = tt; book = refl }
   followed {w} (next {w₁ = w₁} {c = c} {d = d} {c₁ = c₁} {e = e} {es = es} part part₁ rest i k p j more) s =
       let x = step w w₁ part part₁ rest c d c₁ e s i k p j in
       let y = followed more (x .stands) in
       record {
         stands = y .stands;
+        size = y .size ∙ x .size;
+        past-need = y .past-need ∙ x .past-need;
         handed = (x .numbers, x .list, subst (λ b. HandedBack es (answers base (computed ss) b (asked-in es))) (sym (x .book)) (y .handed));
         book = ap {A = Book} (λ b. played base (computed ss) b (asked-in es)) (x .book) ∙ y .book;
       }

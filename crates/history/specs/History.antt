@@ -5,7 +5,7 @@ use mathlib.Core.Bool.{cond}
 use mathlib.Core.Logic.{_⊎_}
 use mathlib.Core.List.{List, [], _∷_, _++_}
 use Prim.Native.Nat.{ℕ, suc, _<_}
-use lib.ListN.{length, take}
+use lib.ListN.{length, take, drop}
 use lib.IntN.{ℤ}
 use lib.Dec.{eqb}
 use Rattle.types.specs.Limits.{base}
@@ -86,7 +86,8 @@ HandedBack [] (a ∷ rest) = ⊥
 HandedBack (e ∷ es) [] = ⊥
 HandedBack (e ∷ es) (a ∷ rest) = (e .numbers ≡ paper a) × (e .new ≡ list-after a (e .old)) × HandedBack es rest
 
-pub record Claim (n : ℕ) (ss : List Sentence) (es : List Event) (w : List ℕ) (c : t.Counters) : Type 0 where
+-- `loaded` are the words that load left, `w` and `c` the words and counters after the calls
+pub record Claim (n : ℕ) (ss : List Sentence) (loaded : List ℕ) (es : List Event) (w : List ℕ) (c : t.Counters) : Type 0 where
   -- the book's answers, whoever judges by full assignments; and such a judgement exists
   pub answers-are : (js : List Judged) → JudgesAll ss js → HandedBack es (answers base js (fresh n ss) (asked-in es))
   pub judged : JudgesAll ss (judged-all (rules-of ss))
@@ -94,6 +95,8 @@ pub record Claim (n : ℕ) (ss : List Sentence) (es : List Event) (w : List ℕ)
   pub whole : Whole base w (counted c)
   pub atoms : atoms-of w ≡ n
   pub theory : theory-of w ≡ rules-of ss
+  pub size : length w ≡ length loaded
+  pub past-need : drop (need n ss) w ≡ drop (need n ss) loaded
   pub rows : (js : List Judged) → JudgesAll ss js → rows-of w ≡ played base js (fresh n ss) (asked-in es) .rows
   pub level : (js : List Judged) → JudgesAll ss js → level-of w ≡ played base js (fresh n ss) (asked-in es) .level
   pub counters : counted c ≡ record { length-is = length (rows-of w); level-is = level-of w }
@@ -107,13 +110,13 @@ pub record Claim (n : ℕ) (ss : List Sentence) (es : List Event) (w : List ℕ)
   pub origin-answered : (l : ℤ) (old : List ℤ) → (new : List ℤ) × (r : Listed) × ListsOrigin w c l old new r
   pub originated : (l : ℤ) (old new : List ℤ) (r : Listed) → ListsOrigin w c l old new r → r .code ≡ 0 → OriginList ss (rows-of w) l (take (r .value) new)
 
--- the counters of a load
-abbrev pub Zero : t.Counters → Type 0
-Zero c = counted c ≡ record { length-is = 0; level-is = 0 }
+-- the counters after a load
+abbrev pub start : t.Counters
+start = record { length = 0; level = record { 0 = 0 } }
 
 -- every list of calls after an accepted load, which hands on the words w
 abbrev pub History : Type 0
 History =
-    (w₀ w : List ℕ) (n : ℕ) (columns : Columns) (r : c.Answer) (zero : t.Counters) → Loads base w₀ w n columns r → r .code ≡ 0 → Zero zero
-    → (es : List Event) (w′ : List ℕ) (c : t.Counters) → Calls n (sentences-in (all-written columns)) w zero es w′ c
-    → Claim n (sentences-in (all-written columns)) es w′ c
+    (w₀ w : List ℕ) (n : ℕ) (columns : Columns) (r : c.Answer) → Loads base w₀ w n columns r → r .code ≡ 0
+    → (es : List Event) (w′ : List ℕ) (c : t.Counters) → Calls n (sentences-in (all-written columns)) w start es w′ c
+    → Claim n (sentences-in (all-written columns)) w es w′ c

@@ -1,0 +1,6 @@
+pub mod Test
+pub mod Checks
+pub mod Decide
+pub mod Steps
+pub mod Lists
+pub mod Claims

@@ -1,0 +1,103 @@
+-- Calls on concrete words: what a contract asks, from facts that compute; and a list of calls, call by call. Assumes nothing.
+use mathlib.Core.Path.{_≡_, refl, sym, ap}
+use mathlib.Core.Bool.{not}
+use mathlib.Core.Logic.{inl, inr}
+use mathlib.Core.List.{List, [], _∷_, append-nil}
+use Prim.Native.Nat.{ℕ}
+use lib.ListN.{length, take, drop, take-append-drop}
+use lib.IntN.{ℤ}
+use lib.Dec.{T, T-not, ltb, ltb→lt}
+use Rattle.types.specs.Limits.{base}
+use Rattle.types.specs.declared.Counters as t
+use Rattle.meaning.specs.Meaning.{Sentence}
+use Rattle.meaning.specs.Merge.{Rule}
+use Rattle.book.specs.Rows.{Row}
+use Rattle.book.specs.Table.{Call, refused, Paper, paper, list-after, Outcome, reply}
+use Rattle.book.specs.Book.{Counters, need}
+use Rattle.area.specs.Layout.{atoms-of, level-of, rows-of, theory-of, need-of}
+use Rattle.area.specs.Whole.{Whole}
+use Rattle.calls.specs.Calls.{area-state, Answered, keeps, Acts, Lists}
+use Rattle.history.specs.History.{Event, Step, Calls, next}
+use Rattle.history_examples.specs.Examples.{counters-at}
+use Rattle.history_examples.proofs.Test.{whole-test}
+use Rattle.history_examples.proofs.Decide.{decided}
+
+-- what is read off the words after a call that is not refused, and what it must be
+pub record ReadOff : Type 0 where
+  pub atoms : ℕ
+  pub theory : List Rule
+  pub level : ℕ
+  pub rows : List Row
+  pub size : ℕ
+  pub rest : List ℕ
+
+abbrev pub words-show : (w w′ : List ℕ) → ReadOff
+words-show w w′ =
+    record { atoms = atoms-of w′; theory = theory-of w′; level = level-of w′; rows = rows-of w′; size = length w′; rest = drop (need-of w) w′ }
+
+abbrev pub must-show : List ℕ → Outcome → ReadOff
+must-show w o =
+    record { atoms = atoms-of w; theory = theory-of w; level = o .level; rows = o .rows; size = length w; rest = drop (need-of w) w }
+
+-- ---- contracts
+
+module _ {w : List ℕ} {c : Counters} {x : Call} {p : Paper} where
+  pub answered : T (whole-test base w c) → p ≡ paper (reply (area-state base w) x .answer) → Answered base w c x p
+  answered h e = record { broken = λ n. absurd (n (decided base w c h)); told = λ h. e }
+
+  -- not refused: the words w′ and counters c′
+  pub moving : {w′ : List ℕ} {c′ : Counters} → T (whole-test base w c) → p ≡ paper (reply (area-state base w) x .answer)
+      → T (not (keeps (area-state base w) x)) → T (whole-test base w′ c′) → words-show w w′ ≡ must-show w (reply (area-state base w) x) → Acts base w w′ c c′ x p
+  moving {w′} {c′} h e k h′ l = record {
+    answer = answered h e;
+    broken = λ n. absurd (n (decided base w c h));
+    kept = λ _ y. absurd (T-not (keeps (area-state base w) x) k y);
+    moved = λ _ y. record {
+      whole = decided base w′ c′ h′;
+      atoms = ap (λ z. z .atoms) l;
+      theory = ap (λ z. z .theory) l;
+      level = ap (λ z. z .level) l;
+      rows = ap (λ z. z .rows) l;
+      size = ap (λ z. z .size) l;
+      rest = ap (λ z. z .rest) l;
+    };
+  }
+
+  -- refused by the table, or with nothing to do
+  pub keeping : T (whole-test base w c) → p ≡ paper (reply (area-state base w) x .answer) → T (keeps (area-state base w) x) → Acts base w w c c x p
+  keeping h e k = record {
+    answer = answered h e;
+    broken = λ n. (refl, refl);
+    kept = λ _ y. (refl, refl);
+    moved = λ _ y. absurd (T-not (keeps (area-state base w) x) y k);
+  }
+
+  -- on words that are not whole
+  pub refusing : ¬ (Whole base w c) → p ≡ paper (refused 9 0) → Acts base w w c c x p
+  refusing n e = record {
+    answer = record { broken = λ _. e; told = λ h. absurd (n h) };
+    broken = λ _. (refl, refl);
+    kept = λ h. absurd (n h);
+    moved = λ h. absurd (n h);
+  }
+
+  pub listing : {old new : List ℤ} → T (whole-test base w c) → p ≡ paper (reply (area-state base w) x .answer)
+      → new ≡ list-after (reply (area-state base w) x .answer) old → Lists base w c x old new p
+  listing h e l = record { answer = answered h e; broken = λ n. absurd (n (decided base w c h)); written = λ _. l }
+
+  pub refusing-list : {old : List ℤ} → ¬ (Whole base w c) → p ≡ paper (refused 9 0) → Lists base w c x old old p
+  refusing-list n e =
+      record { answer = record { broken = λ _. e; told = λ h. absurd (n h) }; broken = λ _. refl; written = λ h. absurd (n h) }
+
+-- ---- lists of calls
+
+module _ {n : ℕ} {ss : List Sentence} {w w₂ : List ℕ} {c c₁ c₂ : t.Counters} {e : Event} {es : List Event} {len level : ℕ} where
+  -- a call on all words, which leaves w₁
+  pub then : (w₁ : List ℕ) → Step w c (counters-at len level) w₁ e c₁ → Calls n ss w₁ c₁ es w₂ c₂ → Calls n ss w c (e ∷ es) w₂ c₂
+  then w₁ s later = next w w₁ [] (sym (append-nil w)) (inl refl) s (sym (append-nil w₁)) later
+
+  -- a call on the first k words, fewer than the need, which changes none
+  pub then-cut : (k : ℕ) → T (ltb (length (take k w)) (need n ss)) → Step (take k w) c (counters-at len level) (take k w) e c₁ → Calls n ss w c₁ es w₂ c₂
+      → Calls n ss w c (e ∷ es) w₂ c₂
+  then-cut k l s later =
+      next (take k w) (take k w) (drop k w) (sym (take-append-drop k w)) (inr (ltb→lt (length (take k w)) (need n ss) l)) s (sym (take-append-drop k w)) later
