@@ -96,15 +96,21 @@ scope-numbered (suc (suc k)) (x ∷ ss) (j ∷ js) s m h = scope-numbered (suc k
 
 -- ---- explanations
 
+-- of a conflict, over any consistent trail of literals
+pub conflict-listed : (ss : List Sentence) (js : List Judged) → Each Blind ss → JudgesAll ss js → (rows : List Row) → Consistent (trail rows)
+    → ((l : ℤ) → Among l (trail rows) → 1 ≤ atom l) → (k : ℕ) (s : Sentence) → IsNumber k ss s → Conflict s (trail rows)
+    → ExplainsConflict ss rows k (conflict-explanation (scopes js) rows k)
+conflict-listed ss js blind m rows agreed literals k s num c = record {
+  sentence = s;
+  number = num;
+  entailed = subst (λ sc. EntailedBy s (map negℤ (causes (trail rows) sc))) (sym (scope-numbered k ss js s m num))
+      (conflict-clause s (numbered-each Blind k ss s num blind) (trail rows) agreed literals c);
+  literals-false = causes-false (trail rows) (causes (trail rows) (numbered [] k (scopes js))) (λ x a. causes-from (trail rows) (numbered [] k (scopes js)) x a);
+}
+
 module _ (n : ℕ) (ss : List Sentence) (js : List Judged) (blind : Each Blind ss) (m : JudgesAll ss js) (v : ℕ) (rows : List Row) (h : Sound n ss v rows) where
   pub conflict-explained : (k : ℕ) (s : Sentence) → IsNumber k ss s → Conflict s (trail rows) → ExplainsConflict ss rows k (conflict-explanation (scopes js) rows k)
-  conflict-explained k s num c = record {
-    sentence = s;
-    number = num;
-    entailed = subst (λ sc. EntailedBy s (map negℤ (causes (trail rows) sc))) (sym (scope-numbered k ss js s m num))
-        (conflict-clause s (numbered-each Blind k ss s num blind) (trail rows) (consistent n ss v rows h) (λ l a. trail-within n ss v rows l h a) c);
-    literals-false = causes-false (trail rows) (causes (trail rows) (numbered [] k (scopes js))) (λ x a. causes-from (trail rows) (numbered [] k (scopes js)) x a);
-  }
+  conflict-explained = conflict-listed ss js blind m rows (consistent n ss v rows h) (λ l a. trail-within n ss v rows l h a)
 
   module _ (l : ℤ) (a : Among l (trail rows)) where
     abbrev mine : Row

@@ -12,7 +12,7 @@ ghost use Prim.Native.Nat.{_+_, _*_};
 ghost use Rattle.types.specs.Limits.{base};
 ghost use Rattle.columns.specs.Columns.{columns};
 ghost use Rattle.load.specs.Load.{Loads};
-ghost use Rattle.dalelead.specs.Public.{Gives, Opens, TakesBack, Propagates, SearchesFor, ReadsBounds, ListsTrail};
+ghost use Rattle.dalelead.specs.Public.{Gives, Opens, TakesBack, Propagates, SearchesFor, ReadsBounds, ListsExplanation, ListsConflict, ListsOrigin, ListsTrail};
 
 // Load: the columns are checked and stored, merged, in the area; the counters start at 0 and 0.
 pub fn load(
@@ -81,6 +81,27 @@ pub fn bounds(area: &[u64], counters: Counters, sentence: Sentence) -> calls::Bo
     ensures { λ r. ⌜ ReadsBounds (now (area .entry)) counters (sentence .0) r ⌝ }
 {
     reports::bounds_within(area, Limits::base(), counters, sentence)
+}
+
+// The explanation of a derived literal: the literal, then the negations of the literals put on before it whose atoms its reason has.
+pub fn explain(area: &[u64], counters: Counters, literal: i64, list: &mut [i64]) -> Listed
+    ensures { λ r. ⌜ ListsExplanation (now (area .entry)) counters literal (now (list .entry)) (now (list .exit)) r ⌝ }
+{
+    explain::explain_within(area, Limits::base(), counters, literal, list)
+}
+
+// The explanation of a conflict: the negations of the literals on the trail whose atoms the sentence has.
+pub fn explain_conflict(area: &[u64], counters: Counters, sentence: Sentence, list: &mut [i64]) -> Listed
+    ensures { λ r. ⌜ ListsConflict (now (area .entry)) counters (sentence .0) (now (list .entry)) (now (list .exit)) r ⌝ }
+{
+    explain::explain_conflict_within(area, Limits::base(), counters, sentence, list)
+}
+
+// The given literals that a literal of the trail rests on, in the order of the trail.
+pub fn origin(area: &[u64], counters: Counters, literal: i64, list: &mut [i64]) -> Listed
+    ensures { λ r. ⌜ ListsOrigin (now (area .entry)) counters literal (now (list .entry)) (now (list .exit)) r ⌝ }
+{
+    origin::origin_within(area, Limits::base(), counters, literal, list)
 }
 
 // The trail: literal, level and reason of each row, in order.

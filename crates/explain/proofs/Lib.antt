@@ -1,0 +1,6 @@
+pub mod Opposites
+pub mod Loops
+pub mod Conflicts
+pub mod Replies
+pub mod Answers
+pub mod Meaning

@@ -1,0 +1,31 @@
+-- Not whole, it answers 9 and leaves the list; whole, the table's answer. Assumes nothing.
+use mathlib.Core.Path.{refl}
+use lib.ListN.{length}
+use borrow.Author.Needs.{needs}
+use Rattle.decide.proofs.Tells.{denied, granted}
+use Rattle.book.specs.Table.{explain-conflict}
+use Rattle.calls.specs.Calls.{counted}
+use Rattle.causes.proofs.Listing.{lists-nine, lists-whole}
+use Rattle.explain.proofs.explain_conflict_within.Statement.{statement}
+use Rattle.explain.proofs.explain_conflict_within.Tie as tie
+
+is-whole-requires : tie.Need-is-whole-requires
+is-whole-requires c κs = search needs
+
+returns : tie.Need-returns
+returns c = let s = c .before .before .before .before in
+    lists-nine (s .args .lim) (s .args .area .now) (counted (s .args .counters)) (explain-conflict (s .args .sentence .0) (length (s .args .list .now))) (s .args .list .now) (record { code = 9; value = 0 }) (denied (c .before .is-whole .ensures) (c .if1 .taken)) refl
+
+stored-conflict-requires : tie.Need-stored-conflict-requires
+stored-conflict-requires c κs = (c .before .before .before .before .before .pre, granted (c .before .before .is-whole .ensures) (c .before .if1 .left))
+
+same-length : tie.Need-same-length
+same-length c = search needs
+
+returns-2 : tie.Need-returns-2
+returns-2 c = let s = c .before .before .before .before .before .before .before in
+    lists-whole (s .args .lim) (s .args .area .now) (counted (s .args .counters)) (explain-conflict (s .args .sentence .0) (length (s .args .list .now))) (s .args .list .now) (c .before .stored-conflict .last .1 .1 .1 .1 .0) (c .before .stored-conflict .result) (granted (c .before .before .before .before .is-whole .ensures) (c .before .before .before .if1 .left)) (c .before .stored-conflict .ensures)
+
+pub explain-conflict-within-spec : {M : Type 1} → statement M
+explain-conflict-within-spec =
+    tie.close (tie.spec is-whole-requires returns stored-conflict-requires same-length returns-2)

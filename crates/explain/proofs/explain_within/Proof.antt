@@ -1,0 +1,37 @@
+-- Not whole, it answers 9 and leaves the list; whole, the table's answer. Assumes nothing.
+use mathlib.Core.Path.{refl, subst}
+use lib.ListN.{length}
+use mir.Syntax.{w64}
+use mir.ValLaws.{toZ-ofZ}
+use borrow.Author.Needs.{needs}
+use Rattle.decide.proofs.Tells.{denied, granted}
+use Rattle.book.specs.Table.{explain}
+use Rattle.calls.specs.Calls.{counted}
+use Rattle.causes.specs.Listing.{Listing}
+use Rattle.causes.proofs.Listing.{lists-nine, lists-whole}
+use Rattle.explain.proofs.explain_within.Statement.{statement}
+use Rattle.explain.proofs.explain_within.Tie as tie
+
+is-whole-requires : tie.Need-is-whole-requires
+is-whole-requires c κs = search needs
+
+returns : tie.Need-returns
+returns c = let s = c .before .before .before .before in
+    lists-nine (s .args .lim) (s .args .area .now) (counted (s .args .counters)) (explain (s .args .literal) (length (s .args .list .now))) (s .args .list .now) (record { code = 9; value = 0 }) (denied (c .before .is-whole .ensures) (c .if1 .taken)) refl
+
+stored-explanation-requires : tie.Need-stored-explanation-requires
+stored-explanation-requires c κs = (c .before .before .before .before .before .pre, granted (c .before .before .is-whole .ensures) (c .before .if1 .left))
+
+same-length : tie.Need-same-length
+same-length c = search needs
+
+returns-2 : tie.Need-returns-2
+returns-2 c = let s = c .before .before .before .before .before .before .before in
+    lists-whole (s .args .lim) (s .args .area .now) (counted (s .args .counters)) (explain (s .args .literal) (length (s .args .list .now))) (s .args .list .now) (c .before .stored-explanation .last .1 .1 .1 .1 .0) (c .before .stored-explanation .result) (granted (c .before .before .before .before .is-whole .ensures) (c .before .before .before .if1 .left))
+    (subst (λ l. Listing (s .args .lim) (s .args .area .now) (explain l (length (s .args .list .now))) (s .args .list .now) (c .before .stored-explanation .last .1 .1 .1 .1 .0) (c .before .stored-explanation .result))
+    (toZ-ofZ w64 (s .args .literal) (s .fits .literal)) (c .before .stored-explanation .ensures))
+
+pub explain-within-spec : {M : Type 1} → statement M
+explain-within-spec =
+    tie.close
+    (tie.spec is-whole-requires returns stored-explanation-requires same-length returns-2)

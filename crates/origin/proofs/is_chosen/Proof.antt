@@ -1,0 +1,51 @@
+-- Both tests of the definition, one after the other. Assumes nothing.
+use mathlib.Core.Path.{sym, ap}
+use mathlib.Core.Bool.{Bool, not, _&&_}
+use lib.Dec.{eqb}
+use lib.ListN.{getD}
+use borrow.Author.Tests.{eq-eqb, ne-eqb}
+use Rattle.area.specs.Layout.{row-at}
+use borrow.Author.Needs.{needs}
+use Rattle.origin.proofs.is_chosen.Statement.{statement}
+use Rattle.origin.proofs.is_chosen.Tie as tie
+
+mul-if1 : tie.Need-mul-if1
+mul-if1 c = search needs
+
+shared-slice-read-if1 : tie.Need-shared-slice-read-if1
+shared-slice-read-if1 c = search needs
+
+returns : tie.Need-returns
+returns c = let s = c .before .before in
+    ap {A = Bool} (λ b. not b && eqb (row-at (s .args .area .now) (s .args .n) (s .args .position) .reason) 0)
+    (sym (eq-eqb (getD (s .args .marks .now) (s .args .position) 0) 0 (c .if1 .taken)))
+
+mul-result : tie.Need-mul-result
+mul-result c = search needs
+
+add-result : tie.Need-add-result
+add-result c = search needs
+
+mul-result-2 : tie.Need-mul-result-2
+mul-result-2 c = search needs
+
+shared-slice-read-result : tie.Need-shared-slice-read-result
+shared-slice-read-result c = search needs
+
+returns-2 : tie.Need-returns-2
+returns-2 c = let s = c .before .before .before in
+    ap {A = Bool} (λ b. not b && eqb (row-at (s .args .area .now) (s .args .n) (s .args .position) .reason) 0)
+    (sym (ne-eqb (getD (s .args .marks .now) (s .args .position) 0) 0 (c .before .if1 .left)))
+
+pub is-chosen-spec : {M : Type 1} → statement M
+is-chosen-spec =
+    tie.close
+    (tie.spec
+    mul-if1
+    shared-slice-read-if1
+    returns
+    mul-result
+    add-result
+    mul-result-2
+    shared-slice-read-result
+    returns-2)

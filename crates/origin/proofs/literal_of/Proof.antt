@@ -1,0 +1,20 @@
+-- An even word is its atom, and an odd one the atom's opposite. Assumes nothing.
+use borrow.Author.Needs.{needs}
+use Rattle.reports.proofs.Signs.{literal-true, literal-safe, literal-false}
+use Rattle.origin.proofs.literal_of.Statement.{statement}
+use Rattle.origin.proofs.literal_of.Tie as tie
+
+cast-atom : tie.Need-cast-atom
+cast-atom c = search needs
+
+returns : tie.Need-returns
+returns c = literal-true (c .before .args .x) (c .before .fits .x) (c .if1 .taken)
+
+sub-result : tie.Need-sub-result
+sub-result c = literal-safe (c .before .args .x) (c .before .fits .x)
+
+returns-2 : tie.Need-returns-2
+returns-2 c = literal-false (c .before .args .x) (c .before .fits .x) (c .if1 .left)
+
+pub literal-of-spec : {M : Type 1} → statement M
+literal-of-spec = tie.close (tie.spec cast-atom returns sub-result returns-2)
