@@ -1,7 +1,7 @@
 -- A sentence's atoms by place: there is one place more than merged entries, each has an atom of the area, and the causes from a place on are
 -- its own and those from the next place on.
 -- Assumes nothing.
-use mathlib.Core.Path.{_≡_, refl, sym, _∙_, ap, subst}
+use mathlib.Core.Path.{_≡_, refl, sym, _∙_, ap}
 use mathlib.Core.List.{List, [], _∷_}
 use Prim.Native.Nat.{ℕ, zero, suc, _+_, _*_, _-_, _/_, _<_, _≤_}
 use native.Mathlib.Omega.{arith}
@@ -9,7 +9,7 @@ use native.Mathlib.Numerals.{add-one}
 use lib.IntN.{ℤ}
 use lib.ListN.{length, getD, drop, drop-of-length-le}
 use lib.Seq.{drop-cons}
-use Rattle.meaning.specs.Meaning.{Entry, place, Kind, Each}
+use Rattle.meaning.specs.Meaning.{Entry, Kind, Each}
 use Rattle.meaning.specs.Merge.{places, scope}
 use Rattle.book.specs.Rows.{pick, causes}
 use Rattle.area.specs.Layout.{word, merged-at, entry-at, rule-at}

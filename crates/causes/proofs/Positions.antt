@@ -9,7 +9,7 @@ use lib.IntN.{ℤ, pos, negsuc}
 use Rattle.numbers.specs.Words.{literal-of, literal-word}
 use Rattle.numbers.proofs.Words.{literal-of-word}
 use Rattle.meaning.specs.Meaning.{atom}
-use Rattle.area.specs.Layout.{value-at, literal-at, row-at, rows-from, sign}
+use Rattle.area.specs.Layout.{value-at, literal-at, row-at, sign}
 use Rattle.trail_check.proofs.Rows.{atom-of, place-unique}
 use Rattle.trail_check.proofs.Values.{sign-of, Found, here, nowhere, found}
 use Rattle.causes.specs.Causes.{TrailAsked, CauseAt, PositionIs}

@@ -1,11 +1,11 @@
 -- The literals among the first rows, by their positions: the literal that `pick` finds of an atom, the row of a literal, and that a literal
 -- stands there. Each is found at the one position that has it.
 -- Assumes nothing.
-use mathlib.Core.Path.{_≡_, refl, sym, _∙_, ap, subst}
+use mathlib.Core.Path.{_≡_, refl, sym, _∙_, ap}
 use mathlib.Core.Bool.{Bool, true, false, cond}
 use mathlib.Core.Logic.{_⊎_, inl, inr, ⊎-elim}
-use mathlib.Core.List.{List, [], _∷_}
-use Prim.Native.Nat.{ℕ, zero, suc, _<_, _≤_}
+use mathlib.Core.List.{List, _∷_}
+use Prim.Native.Nat.{ℕ, zero, suc, _<_}
 use native.Mathlib.Omega.{arith}
 use native.Mathlib.Nat.{eq-or-lt-of-le}
 use native.Mathlib.Decide.{ℕ-discrete}
@@ -27,6 +27,10 @@ told-true false h = absurd h
 told-false : (b : Bool) → ¬ (T b) → b ≡ false
 told-false true h = absurd (h tt)
 told-false false h = refl
+
+-- below k + 1, and not k
+below : (i k : ℕ) → i < suc k → ¬ (i ≡ k) → i < k
+below i k l d = ⊎-elim {A = i ≡ k} {B = i < k} (λ q. absurd (d q)) (λ q. q) (eq-or-lt-of-le (omega arith))
 
 module _ (w : List ℕ) (n : ℕ) where
   abbrev literal : ℕ → ℤ
@@ -54,7 +58,7 @@ module _ (w : List ℕ) (n : ℕ) where
           ∙ ap {A = ℕ} (λ j. literal j ∷ rest) (once k (omega arith) q)
       go (no d) ih =
           ap {A = Bool} (λ b. cond b (literal k ∷ rest) (pick (trail (rows-from w n k)) a rest)) (ne-eqb (atom (literal k)) a d)
-          ∙ ih (⊎-elim {A = i ≡ k} {B = i < k} (λ (q : i ≡ k). absurd (d (ap {A = ℕ} (λ j. atom (literal j)) (sym q) ∙ e))) (λ (q : i < k). q) (eq-or-lt-of-le (omega arith)))
+          ∙ ih (below i k l (λ (q : i ≡ k). d (ap {A = ℕ} (λ j. atom (literal j)) (sym q) ∙ e)))
 
   -- ---- the row of a literal
 
@@ -65,11 +69,11 @@ module _ (w : List ℕ) (n : ℕ) where
   row-of-one l i (suc k) m e once =
       go (same (literal k) l) (λ t. same→eq (literal k) l t) (λ q. eq→same (literal k) l q) (λ q. row-of-one l i k q e (λ j p. once j (omega arith)))
     where
-      go : (b : Bool) → (T b → literal k ≡ l) → (literal k ≡ l → T b) → (i < k → row-of l (rows-from w n k) ≡ record { mine = row-at w n i; before = rows-from w n i })
+      go : (b : Bool) → (T b → literal k ≡ l) → (literal k ≡ l → T b)
+          → (i < k → row-of l (rows-from w n k) ≡ record { mine = row-at w n i; before = rows-from w n i })
           → cond b (record { mine = row-at w n k; before = rows-from w n k }) (row-of l (rows-from w n k)) ≡ record { mine = row-at w n i; before = rows-from w n i }
       go true y z ih = ap {A = ℕ} {B = Standpoint} (λ j. record { mine = row-at w n j; before = rows-from w n j }) (once k (omega arith) (y tt))
-      go false y z ih =
-          ih (⊎-elim {A = i ≡ k} {B = i < k} (λ (q : i ≡ k). absurd (z (ap {A = ℕ} literal (sym q) ∙ e))) (λ (q : i < k). q) (eq-or-lt-of-le (omega arith)))
+      go false y z ih = ih (below i k m (λ (q : i ≡ k). z (ap {A = ℕ} literal (sym q) ∙ e)))
 
   -- ---- a literal among them
 

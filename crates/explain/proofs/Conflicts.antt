@@ -5,7 +5,6 @@ use mathlib.Core.Path.{_≡_, refl, sym, _∙_, ap, subst}
 use mathlib.Core.Bool.{Bool, true, false}
 use mathlib.Core.List.{List}
 use Prim.Native.Nat.{ℕ, suc, _<_}
-use lib.IntN.{ℤ}
 use Rattle.types.specs.declared.Limits.{Limits}
 use Rattle.types.specs.Limits.{Fitting}
 use Rattle.meaning.specs.Meaning as m
@@ -42,7 +41,7 @@ module _ {w : List ℕ} {n S b : ℕ} {r : Said} (is : SaidIs w n S b r) where
 
 -- ---- in a whole area
 
-module _ (lim : Limits) (w : List ℕ) (c : Counters) (fit : Fitting lim) (h : Whole lim w c) (s : ℕ) (inside : s < sentences-of w) where
+module _ {lim : Limits} {w : List ℕ} {c : Counters} (fit : Fitting lim) (h : Whole lim w c) (s : ℕ) (inside : s < sentences-of w) where
   asked : Asked w (atoms-of w) (sentences-of w)
   asked = record { lim = lim; len = c .length-is; level = c .level-is; searchable = record { fitting = fit; whole = h; atoms = refl; sentences = refl } }
 

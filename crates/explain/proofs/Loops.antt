@@ -4,7 +4,7 @@
 use mathlib.Core.Path.{_≡_, refl, sym, _∙_, ap}
 use mathlib.Core.Bool.{Bool, true, false, cond}
 use mathlib.Core.List.{List, [], _∷_, _++_, map, append-nil, append-assoc}
-use Prim.Native.Nat.{ℕ, suc, _+_, _<_, _≤_}
+use Prim.Native.Nat.{ℕ, _+_, _<_, _≤_}
 use native.Mathlib.Omega.{arith}
 use native.Mathlib.Numerals.{add-one}
 use lib.IntN.{ℤ, negℤ}
@@ -17,7 +17,7 @@ use Rattle.book.specs.Rows.{pick, causes}
 use Rattle.area.specs.Layout.{merged-at, row-at, rule-at}
 use Rattle.causes.specs.Causes.{before, CausesAsked, CauseAt}
 use Rattle.causes.proofs.Places.{scope-length, causes-next, causes-end}
-use Rattle.explain.specs.Explain.{negations}
+use Rattle.explain.specs.Explain.{negations, overwritten}
 
 -- no more than places
 pick-few : (t : List ℤ) (a : ℕ) (rest : List ℤ) → length (pick t a rest) ≤ 1 + length rest
@@ -49,18 +49,17 @@ pub record Writing (w : List ℕ) (n S b limit start : ℕ) (old : List ℤ) (i 
   pub front : take at list ++ negations-from w n S b limit i ≡ take start old ++ negations w n S b limit
   pub rest : drop at list ≡ drop at old
 
-module _ (w : List ℕ) (n S b limit : ℕ) where
-  abbrev sc : List ℕ
-  sc = scope (rule-at w n S b)
-
-  abbrev from : ℕ → List ℤ
-  from i = negations-from w n S b limit i
-
-  module _ (start : ℕ) (old : List ℤ) where
-    pub writing-starts : Writing w n S b limit start old 0 start old
-    writing-starts = record { size = refl; end = refl; front = refl; rest = refl }
+module _ {w : List ℕ} {n S b limit : ℕ} where
+  pub writing-starts : {start : ℕ} {old : List ℤ} → Writing w n S b limit start old 0 start old
+  writing-starts = record { size = refl; end = refl; front = refl; rest = refl }
 
   module _ (q : CausesAsked w n S b limit) where
+    abbrev sc : List ℕ
+    sc = scope (rule-at w n S b)
+
+    abbrev from : ℕ → List ℤ
+    from i = negations-from w n S b limit i
+
     pub few : length (negations w n S b limit) ≤ merged-at w b + 1
     few = omega (arith, length-map (causes (before w n limit) sc) negℤ, causes-few (before w n limit) sc, scope-length w n S b (q .sentence))
 
@@ -70,17 +69,18 @@ module _ (w : List ℕ) (n S b limit : ℕ) where
     pub counted-ends : (i found : ℕ) → merged-at w b < i → Counted w n S b limit i found → found ≡ length (negations w n S b limit)
     counted-ends i found h e = omega (arith, e, ap {A = List ℤ} length (past i h))
 
-    pub writing-ends : (start : ℕ) (old : List ℤ) (i at : ℕ) (list : List ℤ) → merged-at w b < i → Writing w n S b limit start old i at list
-        → list ≡ take start old ++ negations w n S b limit ++ drop (start + length (negations w n S b limit)) old
-    writing-ends start old i at list h x =
+    pub writing-ends : {start i at : ℕ} {old list : List ℤ} → merged-at w b < i → Writing w n S b limit start old i at list
+        → list ≡ overwritten old start (negations w n S b limit)
+    writing-ends {start} {i} {at} {old} {list} h x =
         let e : at ≡ start + length (negations w n S b limit) = omega (arith, x .end, ap {A = List ℤ} length (past i h)) in
         sym (take-append-drop at list)
-        ∙ ap {A = List ℤ} (λ l. l ++ drop at list) (sym (append-nil (take at list)) ∙ ap {A = List ℤ} (λ l. take at list ++ l) (sym (past i h)) ∙ x .front)
+        ∙ ap {A = List ℤ} (λ l. l ++ drop at list)
+        (sym (append-nil (take at list)) ∙ ap {A = List ℤ} (λ l. take at list ++ l) (sym (past i h)) ∙ x .front)
         ∙ ap {A = List ℤ} (λ l. take start old ++ negations w n S b limit ++ l) (x .rest ∙ ap {A = ℕ} (λ m. drop m old) e)
 
     -- ---- one place
 
-    module _ (i r : ℕ) (inside : i ≤ merged-at w b) (at-place : CauseAt w n (getD sc i 0) limit r) where
+    module _ (i : ℕ) {r : ℕ} (inside : i ≤ merged-at w b) (at-place : CauseAt w n (getD sc i 0) limit r) where
       next : from i ≡ map negℤ (pick (before w n limit) (getD sc i 0) (causes (before w n limit) (drop (i + 1) sc)))
       next = ap {A = List ℤ} (map negℤ) (causes-next (before w n limit) sc i (omega (arith, scope-length w n S b (q .sentence))))
 
@@ -96,13 +96,13 @@ module _ (w : List ℕ) (n S b limit : ℕ) where
       pub counted-same : (found : ℕ) → limit ≤ r → Counted w n S b limit i found → Counted w n S b limit (i + 1) found
       counted-same found h e = omega (arith, e, ap {A = List ℤ} length (not-here h))
 
-      module _ (start : ℕ) (old : List ℤ) (at : ℕ) (list : List ℤ) (x : Writing w n S b limit start old i at list) where
+      module _ {start at : ℕ} {old list : List ℤ} (x : Writing w n S b limit start old i at list) where
         pub room-here : start + length (negations w n S b limit) ≤ length old → r < limit → at < length list
         room-here fits h = omega (arith, fits, x .size, x .end, ap {A = List ℤ} length (found-here h))
 
-        pub writing-more : (z : ℤ) → start + length (negations w n S b limit) ≤ length old → r < limit → z ≡ negℤ (row-at w n r .literal)
+        pub writing-more : {z : ℤ} → start + length (negations w n S b limit) ≤ length old → r < limit → z ≡ negℤ (row-at w n r .literal)
             → Writing w n S b limit start old (i + 1) (at + 1) (set list at z)
-        writing-more z fits h e = record {
+        writing-more {z} fits h e = record {
           size = length-set list at z ∙ x .size;
           end = omega (arith, x .end, ap {A = List ℤ} length (found-here h));
           front =

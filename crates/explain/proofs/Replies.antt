@@ -1,22 +1,21 @@
 -- The table's answers to the two calls, for a work area: the tests of the code are those of the table, and the lists are the negated causes
 -- that the code counts and writes.
 -- Assumes nothing.
-use mathlib.Core.Path.{_≡_, refl, sym, _∙_, ap, ap₂}
+use mathlib.Core.Path.{_≡_, sym, _∙_, ap, ap₂}
 use mathlib.Core.Bool.{Bool, true, false, not, _&&_}
 use mathlib.Core.List.{List, [], _∷_, map}
 use Prim.Native.Nat.{ℕ, suc, _+_, _<_, _≤_}
 use native.Mathlib.Omega.{arith}
 use lib.ListN.{length}
 use lib.IntN.{ℤ, negℤ}
-use lib.Dec.{eqb, leb}
+use lib.Dec.{leb}
 use borrow.Author.Tests.{le-leb, lt-leb, lt-ltb, le-ltb, eq-eqb, ne-eqb}
 use Rattle.types.specs.declared.Limits.{Limits}
 use Rattle.meaning.specs.Meaning.{atom}
-use Rattle.meaning.specs.Merge.{scope}
 use Rattle.book.specs.Rows.{trail, causes, Standpoint, row-of, numbered, explanation, conflict-explanation}
-use Rattle.book.specs.Table.{Call, explain, explain-conflict, Answer, refused, listed, Judged, scopes, no-atom, no-sentence, stands, was-given, in-conflict, reply}
+use Rattle.book.specs.Table.{explain, explain-conflict, refused, listed, Judged, scopes, no-atom, no-sentence, stands, was-given, in-conflict, reply}
 use Rattle.book.specs.Book.{judged-all}
-use Rattle.area.specs.Layout.{atoms-of, sentences-of, length-of, row-at, rows-of, record-at, rule-at, theory-of}
+use Rattle.area.specs.Layout.{atoms-of, sentences-of, length-of, row-at, rows-of, record-at, theory-of}
 use Rattle.whole.proofs.Gives.{judged-count}
 use Rattle.calls.specs.Calls.{area-state}
 use Rattle.causes.specs.Causes.{before, PositionIs}
@@ -81,12 +80,14 @@ module _ (lim : Limits) (w : List ℕ) where
           pub explain-short : room < 1 + length others → reply (area-state lim w) (explain l room) .answer ≡ refused 18 (1 + length others)
           unfolding reply
           explain-short h =
-              rw (an-atom, at .stands inside, not-given, lt-ltb room (length (explanation (scopes js) (rows-of w) l)) (omega (arith, size))) (ap {A = ℕ} (λ m. refused 18 m) size)
+              rw (an-atom, at .stands inside, not-given, lt-ltb room (length (explanation (scopes js) (rows-of w) l)) (omega (arith, size)))
+              (ap {A = ℕ} (λ m. refused 18 m) size)
 
           pub explain-listed : 1 + length others ≤ room → reply (area-state lim w) (explain l room) .answer ≡ listed (l ∷ others)
           unfolding reply
           explain-listed h =
-              rw (an-atom, at .stands inside, not-given, le-ltb room (length (explanation (scopes js) (rows-of w) l)) (omega (arith, size))) (ap {A = List ℤ} listed explanation-is)
+              rw (an-atom, at .stands inside, not-given, le-ltb room (length (explanation (scopes js) (rows-of w) l)) (omega (arith, size)))
+              (ap {A = List ℤ} listed explanation-is)
 
   -- ---- a conflict
 
@@ -124,9 +125,11 @@ module _ (lim : Limits) (w : List ℕ) where
       pub conflict-short : room < length all → reply (area-state lim w) (explain-conflict k room) .answer ≡ refused 18 (length all)
       unfolding reply
       conflict-short h =
-          rw (a-number, conflicting, lt-ltb room (length (conflict-explanation (scopes js) (rows-of w) k)) (omega (arith, all-size))) (ap {A = ℕ} (λ m. refused 18 m) all-size)
+          rw (a-number, conflicting, lt-ltb room (length (conflict-explanation (scopes js) (rows-of w) k)) (omega (arith, all-size)))
+          (ap {A = ℕ} (λ m. refused 18 m) all-size)
 
       pub conflict-listed : length all ≤ room → reply (area-state lim w) (explain-conflict k room) .answer ≡ listed all
       unfolding reply
       conflict-listed h =
-          rw (a-number, conflicting, le-ltb room (length (conflict-explanation (scopes js) (rows-of w) k)) (omega (arith, all-size))) (ap {A = List ℤ} listed all-is)
+          rw (a-number, conflicting, le-ltb room (length (conflict-explanation (scopes js) (rows-of w) k)) (omega (arith, all-size)))
+          (ap {A = List ℤ} listed all-is)

@@ -2,9 +2,10 @@
 -- Assumes nothing.
 use mathlib.Core.Path.{_≡_}
 use mathlib.Core.Bool.{Bool}
-use mathlib.Core.List.{List, map}
-use Prim.Native.Nat.{ℕ}
+use mathlib.Core.List.{List, _++_, map}
+use Prim.Native.Nat.{ℕ, _+_}
 use lib.IntN.{ℤ, negℤ}
+use lib.ListN.{length, take, drop}
 use Rattle.meaning.specs.Merge.{scope}
 use Rattle.meaning.specs.Computed.{says}
 use Rattle.book.specs.Rows.{causes}
@@ -16,6 +17,10 @@ use Rattle.causes.specs.Causes.{before}
 -- of the sentence at b, of n atoms and S sentences, over the first `limit` rows
 abbrev pub negations : List ℕ → ℕ → ℕ → ℕ → ℕ → List ℤ
 negations w n S b limit = map negℤ (causes (before w n limit) (scope (rule-at w n S b)))
+
+-- a list with these numbers in place of its own from `start` on
+abbrev pub overwritten : List ℤ → ℕ → List ℤ → List ℤ
+overwritten old start ls = take start old ++ ls ++ drop (start + length ls) old
 
 -- its stored bounds are its extremes
 pub record Comparable (w : List ℕ) (n S b : ℕ) : Type 0 where

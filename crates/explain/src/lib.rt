@@ -5,10 +5,9 @@ use types::Counters;
 use types::Limits;
 use types::Sentence;
 ghost use mathlib.Core.Path.{_≡_};
-ghost use mathlib.Core.List.{_++_};
 ghost use Prim.Native.Nat.{_+_, _≤_};
 ghost use lib.IntN.{negℤ};
-ghost use lib.ListN.{length, take, drop};
+ghost use lib.ListN.{length};
 ghost use Rattle.types.specs.Limits.{Fitting};
 ghost use Rattle.numbers.specs.Words.{literal-of};
 ghost use Rattle.book.specs.Table.{explain, explain-conflict};
@@ -16,7 +15,7 @@ ghost use Rattle.area.specs.Whole.{Whole};
 ghost use Rattle.calls.specs.Calls.{counted, listed-paper, Lists};
 ghost use Rattle.causes.specs.Causes.{CausesAsked};
 ghost use Rattle.causes.specs.Listing.{Listing};
-ghost use Rattle.explain.specs.Explain.{negations, Comparable, ConflictIs};
+ghost use Rattle.explain.specs.Explain.{negations, overwritten, Comparable, ConflictIs};
 
 // The negation of the literal of a stored word.
 fn negated(x: u64) -> i64
@@ -57,7 +56,7 @@ fn write_causes(
     start: usize,
 )
     requires { ⌜ CausesAsked (now area) n count base limit × (start + length (negations (now area) n count base limit) ≤ length (now list)) ⌝ }
-    ensures { λ _. ⌜ now (list .exit) ≡ take start (now (list .entry)) ++ negations (now (area .entry)) n count base limit ++ drop (start + length (negations (now (area .entry)) n count base limit)) (now (list .entry)) ⌝ }
+    ensures { λ _. ⌜ now (list .exit) ≡ overwritten (now (list .entry)) start (negations (now (area .entry)) n count base limit) ⌝ }
 {
     let merged = (area[base + 7] / 65536) as usize;
     let mut at = start;
@@ -75,7 +74,13 @@ fn write_causes(
 // ---- a derived literal
 
 // The answer on a whole area, and the list.
-fn stored_explanation(area: &[u64], lim: Limits, counters: Counters, literal: i64, list: &mut [i64]) -> Listed
+fn stored_explanation(
+    area: &[u64],
+    lim: Limits,
+    counters: Counters,
+    literal: i64,
+    list: &mut [i64],
+) -> Listed
     requires { ⌜ Fitting lim × Whole lim (now area) (counted counters) ⌝ }
     ensures { λ r. ⌜ Listing lim (now (area .entry)) (explain literal (length (now (list .entry)))) (now (list .entry)) (now (list .exit)) r ⌝ }
 {
@@ -113,7 +118,13 @@ fn stored_explanation(area: &[u64], lim: Limits, counters: Counters, literal: i6
     }
 }
 
-pub fn explain_within(area: &[u64], lim: Limits, counters: Counters, literal: i64, list: &mut [i64]) -> Listed
+pub fn explain_within(
+    area: &[u64],
+    lim: Limits,
+    counters: Counters,
+    literal: i64,
+    list: &mut [i64],
+) -> Listed
     requires { ⌜ Fitting lim ⌝ }
     ensures { λ r. ⌜ Lists lim (now (area .entry)) (counted counters) (explain literal (length (now (list .entry)))) (now (list .entry)) (now (list .exit)) (listed-paper r) ⌝ }
 {
@@ -140,7 +151,13 @@ fn in_conflict(area: &[u64], n: usize, count: usize, base: usize) -> bool
 }
 
 // The answer on a whole area, and the list.
-fn stored_conflict(area: &[u64], lim: Limits, counters: Counters, sentence: Sentence, list: &mut [i64]) -> Listed
+fn stored_conflict(
+    area: &[u64],
+    lim: Limits,
+    counters: Counters,
+    sentence: Sentence,
+    list: &mut [i64],
+) -> Listed
     requires { ⌜ Fitting lim × Whole lim (now area) (counted counters) ⌝ }
     ensures { λ r. ⌜ Listing lim (now (area .entry)) (explain-conflict (sentence .0) (length (now (list .entry)))) (now (list .entry)) (now (list .exit)) r ⌝ }
 {
@@ -172,7 +189,13 @@ fn stored_conflict(area: &[u64], lim: Limits, counters: Counters, sentence: Sent
     }
 }
 
-pub fn explain_conflict_within(area: &[u64], lim: Limits, counters: Counters, sentence: Sentence, list: &mut [i64]) -> Listed
+pub fn explain_conflict_within(
+    area: &[u64],
+    lim: Limits,
+    counters: Counters,
+    sentence: Sentence,
+    list: &mut [i64],
+) -> Listed
     requires { ⌜ Fitting lim ⌝ }
     ensures { λ r. ⌜ Lists lim (now (area .entry)) (counted counters) (explain-conflict (sentence .0) (length (now (list .entry)))) (now (list .entry)) (now (list .exit)) (listed-paper r) ⌝ }
 {

@@ -25,27 +25,33 @@ shared-slice-read-v c = search needs
 
 returns : tie.Need-returns
 returns c = let s = c .before .before .before .before in
-    let a = c .before .before .atom-at .ensures in
+    let w = s .args .area .now in
+    let r = c .before .before .atom-at .result in
+    let told = c .before .before .atom-at .ensures in
     let q = s .pre .0 in
-    subst (λ x. CauseAt (s .args .area .now) (s .args .n) x (s .args .limit) (s .args .limit)) (a .is)
-    (cause-open (s .args .area .now) (s .args .n) (q .rows) (q .trail-asked) (c .before .before .atom-at .result) (a .low) (a .high) (s .args .limit) (q .few) (c .if1 .taken))
+    subst (λ a. CauseAt w (s .args .n) a (s .args .limit) (s .args .limit)) (told .is)
+    (cause-open w (s .args .n) (q .rows) (q .trail-asked) r (told .low) (told .high) (s .args .limit) (q .few) (c .if1 .taken))
 
 sub-position : tie.Need-sub-position
 sub-position c = search needs
 
 returns-2 : tie.Need-returns-2
 returns-2 c = let s = c .before .before .before .before .before in
-    let a = c .before .before .before .atom-at .ensures in
+    let w = s .args .area .now in
+    let r = c .before .before .before .atom-at .result in
+    let told = c .before .before .before .atom-at .ensures in
     let q = s .pre .0 in
-    subst (λ x. CauseAt (s .args .area .now) (s .args .n) x (s .args .limit) ((value-at (s .args .area .now) (s .args .n) (c .before .before .before .atom-at .result) - 1) / 2)) (a .is)
-    (cause-found (s .args .area .now) (s .args .n) (q .rows) (q .trail-asked) (c .before .before .before .atom-at .result) (a .low) (a .high) (s .args .limit) (q .few) (c .before .if1 .left) (c .if2 .taken))
+    subst (λ a. CauseAt w (s .args .n) a (s .args .limit) ((value-at w (s .args .n) r - 1) / 2)) (told .is)
+    (cause-found w (s .args .n) (q .rows) (q .trail-asked) r (told .low) (told .high) (s .args .limit) (q .few) (c .before .if1 .left) (c .if2 .taken))
 
 returns-3 : tie.Need-returns-3
 returns-3 c = let s = c .before .before .before .before .before in
-    let a = c .before .before .before .atom-at .ensures in
+    let w = s .args .area .now in
+    let r = c .before .before .before .atom-at .result in
+    let told = c .before .before .before .atom-at .ensures in
     let q = s .pre .0 in
-    subst (λ x. CauseAt (s .args .area .now) (s .args .n) x (s .args .limit) (s .args .limit)) (a .is)
-    (cause-late (s .args .area .now) (s .args .n) (q .rows) (q .trail-asked) (c .before .before .before .atom-at .result) (a .low) (a .high) (s .args .limit) (q .few) (c .before .if1 .left) (c .if2 .left))
+    subst (λ a. CauseAt w (s .args .n) a (s .args .limit) (s .args .limit)) (told .is)
+    (cause-late w (s .args .n) (q .rows) (q .trail-asked) r (told .low) (told .high) (s .args .limit) (q .few) (c .before .if1 .left) (c .if2 .left))
 
 pub cause-at-spec : {M : Type 1} → statement M
 cause-at-spec =

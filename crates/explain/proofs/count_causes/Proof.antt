@@ -1,7 +1,7 @@
 -- Those found before a place and those from it on make up all (`Loops`). Assumes nothing.
 use mathlib.Core.Path.{sym, subst}
 use mathlib.Core.Logic.{⊎-elim}
-use Prim.Native.Nat.{_+_, _-_, _≤_}
+use Prim.Native.Nat.{ℕ, _+_, _-_, _≤_}
 use native.Mathlib.Omega.{arith}
 use borrow.Author.Needs.{needs}
 use Rattle.area.specs.Layout.{merged-at}
@@ -10,7 +10,8 @@ use Rattle.explain.proofs.count_causes.Statement.{statement}
 use Rattle.explain.proofs.count_causes.Tie as tie
 
 abbrev Inv-loop : tie.InvT-loop
-Inv-loop area n count base limit merged found₀ place₀ found place = (place ≤ merged + 1) × (found ≤ place) × Counted area n count base limit place found
+Inv-loop area n count base limit merged found₀ place₀ found place =
+    (place ≤ merged + 1) × (found ≤ place) × Counted area n count base limit place found
 
 abbrev μ-loop : tie.MeasureT-loop
 μ-loop area n count base limit merged found₀ place₀ found place = merged + 1 - place
@@ -43,20 +44,20 @@ loop-again : tie.Need-loop-again Inv-loop μ-loop
 loop-again c = let s = c .before .before .before .before .before .before in
     let p = c .before .before .before in
     let w = s .args .area .now in
-    let r = c .before .cause-at .result in
     let i = p .loop .place in
+    let told = c .before .cause-at .ensures in
     let more : i ≤ merged-at w (s .args .base) = c .before .before .loop-test .taken in
-    (omega arith, ⊎-elim (λ x. omega arith) (λ x. omega arith) (c .if1 .came), ⊎-elim
-    (λ x. subst (Counted w (s .args .n) (s .args .count) (s .args .base) (s .args .limit) (i + 1)) (sym (x .1))
-    (counted-more w (s .args .n) (s .args .count) (s .args .base) (s .args .limit) (s .pre) i r more (c .before .cause-at .ensures) (p .loop .found) (x .0 .taken) (p .loop .inv .2)))
-    (λ x. subst (Counted w (s .args .n) (s .args .count) (s .args .base) (s .args .limit) (i + 1)) (sym (x .1))
-    (counted-same w (s .args .n) (s .args .count) (s .args .base) (s .args .limit) (s .pre) i r more (c .before .cause-at .ensures) (p .loop .found) (x .0 .left) (p .loop .inv .2)))
-    (c .if1 .came))
+    let Next : ℕ → Type 0 = Counted w (s .args .n) (s .args .count) (s .args .base) (s .args .limit) (i + 1) in (
+      omega arith,
+      ⊎-elim (λ x. omega arith) (λ x. omega arith) (c .if1 .came),
+      ⊎-elim
+          (λ x. subst Next (sym (x .1)) (counted-more (s .pre) i more told (p .loop .found) (x .0 .taken) (p .loop .inv .2)))
+          (λ x. subst Next (sym (x .1)) (counted-same (s .pre) i more told (p .loop .found) (x .0 .left) (p .loop .inv .2)))
+          (c .if1 .came),
+    )
 
 returns : tie.Need-returns Inv-loop μ-loop
-returns c = let s = c .before .before .before .before in
-    let p = c .before in
-    counted-ends (s .args .area .now) (s .args .n) (s .args .count) (s .args .base) (s .args .limit) (s .pre) (p .loop .place) (p .loop .found) (c .loop-test .left) (p .loop .inv .2)
+returns c = let p = c .before in counted-ends (c .before .before .before .before .pre) (p .loop .place) (p .loop .found) (c .loop-test .left) (p .loop .inv .2)
 
 pub count-causes-spec : {M : Type 1} → statement M
 count-causes-spec =

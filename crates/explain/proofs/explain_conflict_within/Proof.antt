@@ -14,7 +14,9 @@ is-whole-requires c κs = search needs
 
 returns : tie.Need-returns
 returns c = let s = c .before .before .before .before in
-    lists-nine (s .args .lim) (s .args .area .now) (counted (s .args .counters)) (explain-conflict (s .args .sentence .0) (length (s .args .list .now))) (s .args .list .now) (record { code = 9; value = 0 }) (denied (c .before .is-whole .ensures) (c .if1 .taken)) refl
+    lists-nine (s .args .lim) (s .args .area .now) (counted (s .args .counters))
+    (explain-conflict (s .args .sentence .0) (length (s .args .list .now))) (s .args .list .now)
+    (record { code = 9; value = 0 }) (denied (c .before .is-whole .ensures) (c .if1 .taken)) refl
 
 stored-conflict-requires : tie.Need-stored-conflict-requires
 stored-conflict-requires c κs = (c .before .before .before .before .before .pre, granted (c .before .before .is-whole .ensures) (c .before .if1 .left))
@@ -24,7 +26,12 @@ same-length c = search needs
 
 returns-2 : tie.Need-returns-2
 returns-2 c = let s = c .before .before .before .before .before .before .before in
-    lists-whole (s .args .lim) (s .args .area .now) (counted (s .args .counters)) (explain-conflict (s .args .sentence .0) (length (s .args .list .now))) (s .args .list .now) (c .before .stored-conflict .last .1 .1 .1 .1 .0) (c .before .stored-conflict .result) (granted (c .before .before .before .before .is-whole .ensures) (c .before .before .before .if1 .left)) (c .before .stored-conflict .ensures)
+    let new = c .before .stored-conflict .last .1 .1 .1 .1 .0 in
+    let r = c .before .stored-conflict .result in
+    lists-whole (s .args .lim) (s .args .area .now) (counted (s .args .counters))
+    (explain-conflict (s .args .sentence .0) (length (s .args .list .now))) (s .args .list .now)
+    new r (granted (c .before .before .before .before .is-whole .ensures) (c .before .before .before .if1 .left))
+    (c .before .stored-conflict .ensures)
 
 pub explain-conflict-within-spec : {M : Type 1} → statement M
 explain-conflict-within-spec =

@@ -7,7 +7,6 @@ use lib.ListN.{length}
 use borrow.Author.Tests.{not-true, not-false}
 use Rattle.book.specs.Table.{explain-conflict}
 use Rattle.area.specs.Layout.{atoms-of, sentences-of, record-at}
-use Rattle.calls.specs.Calls.{counted}
 use Rattle.causes.proofs.Listing.{listing-refused}
 use Rattle.explain.specs.Explain.{ConflictIs}
 use Rattle.explain.proofs.Conflicts.{comparable}
@@ -17,14 +16,12 @@ use borrow.Author.Needs.{needs}
 use Rattle.explain.proofs.stored_conflict.Statement.{statement}
 use Rattle.explain.proofs.stored_conflict.Tie as tie
 
--- what the test of the conflict tells
-told : (c : tie.After-in-conflict) {r : Bool} → c .in-conflict .result ≡ r
-    → ConflictIs (c .before .before .before .before .before .before .args .area .now) (atoms-of (c .before .before .before .before .before .before .args .area .now))
-    (sentences-of (c .before .before .before .before .before .before .args .area .now))
-    (record-at (atoms-of (c .before .before .before .before .before .before .args .area .now)) (c .before .before .before .before .before .before .args .sentence .0 - 1)) r
-told c e = let s = c .before .before .before .before .before .before in
-    let w = s .args .area .now in
-    subst (ConflictIs w (atoms-of w) (sentences-of w) (record-at (atoms-of w) (s .args .sentence .0 - 1))) e (c .in-conflict .ensures)
+-- r says whether the call's sentence is in conflict
+abbrev Told : tie.Start → Bool → Type 0
+Told s r = let w = s .args .area .now in ConflictIs w (atoms-of w) (sentences-of w) (record-at (atoms-of w) (s .args .sentence .0 - 1)) r
+
+told : (c : tie.After-in-conflict) {r : Bool} → c .in-conflict .result ≡ r → Told (c .before .before .before .before .before .before) r
+told c e = subst (Told (c .before .before .before .before .before .before)) e (c .in-conflict .ensures)
 
 shared-slice-read-n : tie.Need-shared-slice-read-n
 shared-slice-read-n c = search needs
@@ -56,33 +53,41 @@ add-base c = search needs
 
 in-conflict-requires : tie.Need-in-conflict-requires
 in-conflict-requires c κs = let s = c .before .before .before .before .before in
-    comparable (s .args .lim) (s .args .area .now) (counted (s .args .counters)) (s .pre .0) (s .pre .1) (s .args .sentence .0 - 1) (omega arith)
+    comparable (s .pre .0) (s .pre .1) (s .args .sentence .0 - 1) (omega arith)
 
 returns-3 : tie.Need-returns-3
 returns-3 c = let s = c .before .before .before .before .before .before .before in
-    quiet-refused (s .args .lim) (s .args .area .now) (counted (s .args .counters)) (s .pre .0) (s .pre .1) (s .args .sentence .0) (omega arith) (omega arith) (s .args .list .now) (told (c .before) (not-true (c .before .in-conflict .result) (c .if3 .taken)))
+    let quiet = told (c .before) (not-true (c .before .in-conflict .result) (c .if3 .taken)) in
+    quiet-refused (s .pre .0) (s .pre .1) (s .args .sentence .0) (omega arith) (omega arith) (s .args .list .now) quiet
 
 shared-slice-read-rows : tie.Need-shared-slice-read-rows
 shared-slice-read-rows c = search needs
 
 count-causes-requires : tie.Need-count-causes-requires
 count-causes-requires c κs = let s = c .before .before .before .before .before .before .before .before in
-    conflict-asked (s .args .lim) (s .args .area .now) (counted (s .args .counters)) (s .pre .0) (s .pre .1) (s .args .sentence .0) (omega arith) (omega arith)
+    conflict-asked (s .pre .0) (s .pre .1) (s .args .sentence .0) (omega arith) (omega arith)
 
 returns-4 : tie.Need-returns-4
 returns-4 c = let s = c .before .before .before .before .before .before .before .before .before .before in
-    clash-short (s .args .lim) (s .args .area .now) (counted (s .args .counters)) (s .pre .0) (s .pre .1) (s .args .sentence .0) (omega arith) (omega arith) (told (c .before .before .before .before) (not-false (c .before .before .before .before .in-conflict .result) (c .before .before .before .if3 .left))) (s .args .list .now) (c .before .count-causes .result) (c .before .count-causes .ensures) (c .if4 .taken)
+    let x = c .before .before .before in
+    clash-short (s .pre .0) (s .pre .1) (s .args .sentence .0) (omega arith) (omega arith)
+    (told (x .before) (not-false (x .before .in-conflict .result) (x .if3 .left))) (s .args .list .now) (c .before .count-causes .ensures) (c .if4 .taken)
 
 write-causes-requires : tie.Need-write-causes-requires
-write-causes-requires c κs = let s = c .before .before .before .before .before .before .before .before .before .before .before in
-    (conflict-asked (s .args .lim) (s .args .area .now) (counted (s .args .counters)) (s .pre .0) (s .pre .1) (s .args .sentence .0) (omega arith) (omega arith), omega (arith, c .before .before .count-causes .ensures, c .before .if4 .left))
+write-causes-requires c κs = let s = c .before .before .before .before .before .before .before .before .before .before .before in (
+  conflict-asked (s .pre .0) (s .pre .1) (s .args .sentence .0) (omega arith) (omega arith),
+  omega (arith, c .before .before .count-causes .ensures, c .before .if4 .left),
+)
 
 same-length : tie.Need-same-length
 same-length c = search needs
 
 returns-5 : tie.Need-returns-5
 returns-5 c = let s = c .before .before .before .before .before .before .before .before .before .before .before .before .before in
-    clash-listed (s .args .lim) (s .args .area .now) (counted (s .args .counters)) (s .pre .0) (s .pre .1) (s .args .sentence .0) (omega arith) (omega arith) (told (c .before .before .before .before .before .before .before) (not-false (c .before .before .before .before .before .before .before .in-conflict .result) (c .before .before .before .before .before .before .if3 .left))) (s .args .list .now) (c .before .before .before .before .count-causes .result) (c .before .before .before .before .count-causes .ensures) (c .before .write-causes .last .1 .1 .1 .1 .1 .0) (c .before .before .before .if4 .left) (c .before .write-causes .ensures)
+    let x = c .before .before .before .before .before .before in
+    clash-listed (s .pre .0) (s .pre .1) (s .args .sentence .0) (omega arith) (omega arith)
+    (told (x .before) (not-false (x .before .in-conflict .result) (x .if3 .left)))
+    (s .args .list .now) (c .before .before .before .before .count-causes .ensures) (c .before .before .before .if4 .left) (c .before .write-causes .ensures)
 
 pub stored-conflict-spec : {M : Type 1} → statement M
 stored-conflict-spec =

@@ -15,7 +15,8 @@ use Rattle.explain.proofs.write_causes.Statement.{statement}
 use Rattle.explain.proofs.write_causes.Tie as tie
 
 abbrev Inv-loop : tie.InvT-loop
-Inv-loop area n count base limit list₀ start merged at₀ place₀ list at place = (place ≤ merged + 1) × Writing area n count base limit start list₀ place at list
+Inv-loop area n count base limit list₀ start merged at₀ place₀ list at place =
+    (place ≤ merged + 1) × Writing area n count base limit start list₀ place at list
 
 abbrev μ-loop : tie.MeasureT-loop
 μ-loop area n count base limit list₀ start merged at₀ place₀ list at place = merged + 1 - place
@@ -30,8 +31,7 @@ shared-slice-read-merged : tie.Need-shared-slice-read-merged Inv-loop μ-loop
 shared-slice-read-merged c = search needs
 
 loop-holds : tie.Need-loop-holds Inv-loop μ-loop
-loop-holds c = let s = c .before .before in
-    (omega arith, writing-starts (s .args .area .now) (s .args .n) (s .args .count) (s .args .base) (s .args .limit) (s .args .start) (s .args .list .now))
+loop-holds c = (omega arith, writing-starts)
 
 cause-at-requires : tie.Need-cause-at-requires Inv-loop μ-loop
 cause-at-requires c κs = (c .before .before .before .before .pre .0, c .loop-test .taken)
@@ -52,12 +52,12 @@ negated-requires : tie.Need-negated-requires Inv-loop μ-loop
 negated-requires c κs = search needs
 
 -- there is room for one literal more
-fits-here : (c : tie.After-negated Inv-loop μ-loop) → c .before .before .before .before .before .loop .at < length (c .before .before .before .before .before .loop .list)
+fits-here : (c : tie.After-negated Inv-loop μ-loop)
+    → c .before .before .before .before .before .loop .at < length (c .before .before .before .before .before .loop .list)
 fits-here c =
     let s = c .before .before .before .before .before .before .before .before in
     let p = c .before .before .before .before .before in
-    room-here (s .args .area .now) (s .args .n) (s .args .count) (s .args .base) (s .args .limit) (s .pre .0) (p .loop .place) (c .before .before .before .cause-at .result)
-    (c .before .before .before .before .loop-test .taken) (c .before .before .before .cause-at .ensures) (s .args .start) (s .args .list .now) (p .loop .at) (p .loop .list) (p .loop .inv .1)
+    room-here (s .pre .0) (p .loop .place) (c .before .before .before .before .loop-test .taken) (c .before .before .before .cause-at .ensures) (p .loop .inv .1)
     (s .pre .1) (c .before .before .if1 .taken)
 
 mul-t24 : tie.Need-mul-t24 Inv-loop μ-loop
@@ -79,29 +79,25 @@ loop-again : tie.Need-loop-again Inv-loop μ-loop
 loop-again c = let s = c .before .before .before .before .before .before in
     let p = c .before .before .before in
     let w = s .args .area .now in
-    let old = s .args .list .now in
     let i = p .loop .place in
-    let more : i ≤ merged-at w (s .args .base) = c .before .before .loop-test .taken in
     let told = c .before .cause-at .ensures in
-    let r = c .before .cause-at .result in
-    let Next : ℕ → List ℤ → Type 0 = λ at list. Writing w (s .args .n) (s .args .count) (s .args .base) (s .args .limit) (s .args .start) old (i + 1) at list in
-    (omega arith, ⊎-elim
-    (λ x. subst (λ at. Next at (c .if1 .list)) (sym (x .4)) (subst (Next (p .loop .at + 1)) (sym (x .3))
-    (writing-more w (s .args .n) (s .args .count) (s .args .base) (s .args .limit) (s .pre .0) i r more told (s .args .start) old (p .loop .at) (p .loop .list) (p .loop .inv .1)
-    _ (s .pre .1) (x .0 .taken) (toZ-ofZ w64 (x .2 .result) (search needs) ∙ x .2 .ensures))))
-    (λ x. subst (λ at. Next at (c .if1 .list)) (sym (x .2)) (subst (Next (p .loop .at)) (sym (x .1))
-    (writing-same w (s .args .n) (s .args .count) (s .args .base) (s .args .limit) (s .pre .0) i r more told (s .args .start) old (p .loop .at) (p .loop .list) (p .loop .inv .1)
-    (x .0 .left))))
-    (c .if1 .came))
+    let more : i ≤ merged-at w (s .args .base) = c .before .before .loop-test .taken in
+    let Next : ℕ → List ℤ → Type 0 =
+    Writing w (s .args .n) (s .args .count) (s .args .base) (s .args .limit) (s .args .start) (s .args .list .now) (i + 1) in (
+      omega arith,
+      ⊎-elim
+          (λ x. subst (λ at. Next at (c .if1 .list)) (sym (x .4)) (subst (Next (p .loop .at + 1)) (sym (x .3))
+          (writing-more (s .pre .0) i more told (p .loop .inv .1) (s .pre .1) (x .0 .taken) (toZ-ofZ w64 (x .2 .result) (search needs) ∙ x .2 .ensures))))
+          (λ x. subst (λ at. Next at (c .if1 .list)) (sym (x .2)) (subst (Next (p .loop .at)) (sym (x .1))
+          (writing-same (s .pre .0) i more told (p .loop .inv .1) (x .0 .left))))
+          (c .if1 .came),
+    )
 
 same-length : tie.Need-same-length Inv-loop μ-loop
 same-length c = c .before .loop .inv .1 .size
 
 returns : tie.Need-returns Inv-loop μ-loop
-returns c = let s = c .before .before .before .before in
-    let p = c .before in
-    writing-ends (s .args .area .now) (s .args .n) (s .args .count) (s .args .base) (s .args .limit) (s .pre .0)
-    (s .args .start) (s .args .list .now) (p .loop .place) (p .loop .at) (p .loop .list) (c .loop-test .left) (p .loop .inv .1)
+returns c = writing-ends (c .before .before .before .before .pre .0) (c .loop-test .left) (c .before .loop .inv .1)
 
 pub write-causes-spec : {M : Type 1} → statement M
 write-causes-spec =
