@@ -46,34 +46,34 @@ module _ (w : List ℕ) (p : ℕ) (asked : OriginsAsked w p) where
   zeros-blank = record { none = zeros 4097; room = omega (arith, few, small, length-replicate {A = ℕ} 4097 0) }
 
   module _ (m₀ : List ℕ) (blank : Blank w m₀) where
-    abbrev table : List ℕ
-    table = set m₀ p 1
-
     pub inside : p < length m₀
     inside = omega (arith, asked .position, blank .room)
+
+    module _ (m : List ℕ) (same-size : length m ≡ length m₀) where
+      pub markable : Markable w n S p m
+      markable = record {
+        rows = len;
+        position = asked .position;
+        trail-asked = trail-asked (asked .lim) w (asked .counters) (asked .fitting) (asked .whole);
+        reasons = λ i l. asked .whole .reasons i l .few;
+        sentence = λ s l. ready (asked .lim) w (asked .counters) (asked .whole) (asked .fitting) s l;
+        room = omega (arith, blank .room);
+      }
+
+      pub choosable : Choosable w n len m
+      choosable = record { few = few; words = omega (arith, asked .whole .enough); marks = omega (arith, blank .room) }
+
+    abbrev table : List ℕ
+    table = set m₀ p 1
 
     sole : (i : ℕ) → Marked table i → i ≡ p
     sole i h = ⊎-elim (λ x. let b : ⊥ = omega (arith, x, blank .none i) in absurd b) (λ e. e) (mark-only m₀ p inside i h)
 
-    pub markable : Markable w n S p table
-    markable = record {
-      rows = len;
-      position = asked .position;
-      trail-asked = trail-asked (asked .lim) w (asked .counters) (asked .fitting) (asked .whole);
-      reasons = λ i l. asked .whole .reasons i l .few;
-      sentence = λ s l. ready (asked .lim) w (asked .counters) (asked .whole) (asked .fitting) s l;
-      room = omega (arith, blank .room, length-set m₀ p 1);
-    }
-
-    module _ (m : List ℕ) (a : Adds (Reached w n S p table) table m) where
-      pub choosable : Choosable w n len m
-      choosable = record { few = few; words = omega (arith, asked .whole .enough); marks = omega (arith, blank .room, length-set m₀ p 1, a .size) }
-
-      pub choice : (r : ℕ) → r ≡ length (chosen-literals w n m len) → Choice w p m r
-      choice r e =
-          let are : chosen-literals w n m len ≡ origins-at w p =
-          chosen-origins (asked .lim) w (asked .counters) (asked .whole) p (asked .position) table (mark-set m₀ p inside) sole m a len (omega arith) in
-          record { choosable = choosable; literals = are; counted = e ∙ ap length are }
+    pub choice : (m : List ℕ) → Adds (Reached w n S p table) table m → (r : ℕ) → r ≡ length (chosen-literals w n m len) → Choice w p m r
+    choice m a r e =
+        let are : chosen-literals w n m len ≡ origins-at w p =
+        chosen-origins (asked .lim) w (asked .counters) (asked .whole) p (asked .position) table (mark-set m₀ p inside) sole m a len (omega arith) in
+        record { choosable = choosable m (a .size ∙ length-set m₀ p 1); literals = are; counted = e ∙ ap length are }
 
 -- ---- the list
 

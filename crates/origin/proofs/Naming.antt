@@ -52,6 +52,7 @@ module _ (w : List ℕ) (n S s limit : ℕ) (m₀ : List ℕ) where
   abbrev from : ℕ → List ℤ
   from place = causes (trail (rows-from w n limit)) (drop place sc)
 
+  -- the marks m once the places before `place` are handled, from the marks m₀
   pub record Naming (place : ℕ) (m : List ℕ) : Type 0 where
     pub size : length m ≡ length m₀
     pub kept : (i : ℕ) → Marked m₀ i → Marked m i

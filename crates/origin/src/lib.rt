@@ -70,15 +70,15 @@ fn literal_of(x: u64) -> i64
     0 - atom
 }
 
-// Whether a position is marked and its literal was given.
-fn is_chosen(area: &[u64], n: usize, position: usize, marks: &[u64]) -> bool
-    requires { ⌜ Choosable (now area) n (position + 1) (now marks) ⌝ }
-    ensures { λ r. ⌜ r ≡ chosen (now (area .entry)) n (now (marks .entry)) position ⌝ }
+// Whether position i is marked and its literal was given.
+fn is_chosen(area: &[u64], n: usize, i: usize, marks: &[u64]) -> bool
+    requires { ⌜ Choosable (now area) n (i + 1) (now marks) ⌝ }
+    ensures { λ r. ⌜ r ≡ chosen (now (area .entry)) n (now (marks .entry)) i ⌝ }
 {
-    if marks[position] == 0 {
+    if marks[i] == 0 {
         return false;
     }
-    area[3 * n + position] / 65536 % 65536 == 0
+    area[3 * n + i] / 65536 % 65536 == 0
 }
 
 // How many of the first rows those are.
@@ -133,19 +133,14 @@ fn list_origins(area: &[u64], position: usize, list: &mut [i64]) -> Listed
 {
     let mut marks = [0u64; 4097];
     let needed = choose(area, position, &mut marks);
+    let value = needed as u64;
     if list.len() < needed {
-        return Listed {
-            code: 18,
-            value: needed as u64,
-        };
+        return Listed { code: 18, value };
     }
     let n = (area[0] % 65536) as usize;
     let rows = (area[0] / 4294967296 % 65536) as usize;
     write_chosen(area, n, rows, &marks, list);
-    Listed {
-        code: 0,
-        value: needed as u64,
-    }
+    Listed { code: 0, value }
 }
 
 // The answer on a whole area, and the list.

@@ -64,7 +64,7 @@ mark-mark-requires : (t : ℕ) → mark-lts.Need-mark-requires (
 ) (mark-at t) mark.Post
 mark-mark-requires t c κs = let s = c .before .before .before .before .before .before .before .before in let one = c .before .before .before .before .mark-one in (
   omega (arith, s .pre .0, c .before .if1 .left),
-  markable-below (s .pre .1) (s .args .position - 1) (omega arith) (one .last .1 .1 .1 .1 .0) (one .ensures .size),
+  markable-below (s .pre .1) _ (omega arith) (one .last .1 .1 .1 .1 .0) (one .ensures .size),
 )
 
 mark-same-length-2 : (t : ℕ) → mark-lts.Need-same-length-2 (

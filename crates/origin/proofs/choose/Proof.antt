@@ -32,18 +32,18 @@ mark-requires : tie.Need-mark-requires
 mark-requires c κs = let s = c .before .before .before .before .before .before in
     let w = s .args .area .now in
     let p = s .args .position in
-    let m = s .args .marks .now in markable w p (s .pre .0) m (s .pre .1)
+    let m = s .args .marks .now in markable w p (s .pre .0) m (s .pre .1) _ (length-set m p _)
 
 count-chosen-requires : tie.Need-count-chosen-requires
 count-chosen-requires c κs = let s = c .before .before .before .before .before .before .before .before .before .before in
     let w = s .args .area .now in
     let p = s .args .position in
     let m = s .args .marks .now in
-    let x = c .before .before .before .mark in choosable w p (s .pre .0) m (s .pre .1) (x .last .1 .1 .1 .1 .0) (x .ensures)
+    let x = c .before .before .before .mark in choosable w p (s .pre .0) m (s .pre .1) (x .last .1 .1 .1 .1 .0) (x .ensures .size ∙ length-set m p _)
 
 same-length : tie.Need-same-length
 same-length c = let s = c .before .before .before .before .before .before .before .before .before .before .before in
-    c .before .before .before .before .mark .ensures .size ∙ length-set (s .args .marks .now) (s .args .position) 1
+    c .before .before .before .before .mark .ensures .size ∙ length-set (s .args .marks .now) (s .args .position) _
 
 returns : tie.Need-returns
 returns c = let s = c .before .before .before .before .before .before .before .before .before .before .before in

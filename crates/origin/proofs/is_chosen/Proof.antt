@@ -17,8 +17,8 @@ shared-slice-read-if1 c = search needs
 
 returns : tie.Need-returns
 returns c = let s = c .before .before in
-    ap {A = Bool} (λ b. not b && eqb (row-at (s .args .area .now) (s .args .n) (s .args .position) .reason) 0)
-    (sym (eq-eqb (getD (s .args .marks .now) (s .args .position) 0) 0 (c .if1 .taken)))
+    ap {A = Bool} (λ b. not b && eqb (row-at (s .args .area .now) (s .args .n) (s .args .i) .reason) 0)
+    (sym (eq-eqb (getD (s .args .marks .now) (s .args .i) 0) 0 (c .if1 .taken)))
 
 mul-result : tie.Need-mul-result
 mul-result c = search needs
@@ -34,8 +34,8 @@ shared-slice-read-result c = search needs
 
 returns-2 : tie.Need-returns-2
 returns-2 c = let s = c .before .before .before in
-    ap {A = Bool} (λ b. not b && eqb (row-at (s .args .area .now) (s .args .n) (s .args .position) .reason) 0)
-    (sym (ne-eqb (getD (s .args .marks .now) (s .args .position) 0) 0 (c .before .if1 .left)))
+    ap {A = Bool} (λ b. not b && eqb (row-at (s .args .area .now) (s .args .n) (s .args .i) .reason) 0)
+    (sym (ne-eqb (getD (s .args .marks .now) (s .args .i) 0) 0 (c .before .if1 .left)))
 
 pub is-chosen-spec : {M : Type 1} → statement M
 is-chosen-spec =

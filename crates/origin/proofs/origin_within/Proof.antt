@@ -5,6 +5,7 @@ use mir.Syntax.{w64}
 use mir.ValLaws.{toZ-ofZ}
 use Rattle.decide.proofs.Tells.{denied, granted}
 use Rattle.book.specs.Table.{origin}
+use Rattle.area.specs.Whole.{Whole}
 use Rattle.calls.specs.Calls.{counted}
 use Rattle.causes.specs.Listing.{Listing}
 use Rattle.causes.proofs.Listing.{lists-nine, lists-whole}
@@ -37,7 +38,7 @@ returns-2 c = let s = c .before .before .before .before .before .before .before 
     let rest = c .before .stored-origin in
     let new = rest .last .1 .1 .1 .1 .0 in
     lists-whole (s .args .lim) w had (origin (s .args .literal) (length old)) old new (rest .result)
-    (granted (c .before .before .before .before .is-whole .ensures) (c .before .before .before .if1 .left))
+    (granted {P = Whole (s .args .lim) w had} (c .before .before .before .before .is-whole .ensures) (c .before .before .before .if1 .left))
     (subst (λ l. Listing (s .args .lim) w (origin l (length old)) old new (rest .result)) (toZ-ofZ w64 (s .args .literal) (s .fits .literal)) (rest .ensures))
 
 pub origin-within-spec : {M : Type 1} → statement M
