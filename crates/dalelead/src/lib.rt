@@ -91,7 +91,12 @@ pub fn explain(area: &[u64], counters: Counters, literal: i64, list: &mut [i64])
 }
 
 // The explanation of a conflict: the negations of the literals on the trail whose atoms the sentence has.
-pub fn explain_conflict(area: &[u64], counters: Counters, sentence: Sentence, list: &mut [i64]) -> Listed
+pub fn explain_conflict(
+    area: &[u64],
+    counters: Counters,
+    sentence: Sentence,
+    list: &mut [i64],
+) -> Listed
     ensures { λ r. ⌜ ListsConflict (now (area .entry)) counters (sentence .0) (now (list .entry)) (now (list .exit)) r ⌝ }
 {
     explain::explain_conflict_within(area, Limits::base(), counters, sentence, list)
