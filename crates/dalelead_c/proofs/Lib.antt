@@ -1,0 +1,9 @@
+pub mod Telling
+pub mod Short
+pub mod Changing
+pub mod Finishing
+pub mod Sizes
+pub mod Loading
+pub mod Reporting
+pub mod Fronts
+pub mod Needed

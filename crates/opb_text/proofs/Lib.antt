@@ -1,0 +1,14 @@
+pub mod Checks
+pub mod Table
+pub mod Sums
+pub mod Signs
+pub mod Stores
+pub mod Fronts
+pub mod Totals
+pub mod Keeps
+pub mod Limits
+pub mod Course
+pub mod Decided
+pub mod Filled
+pub mod Replies
+pub mod Columns

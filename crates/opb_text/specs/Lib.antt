@@ -1,3 +1,4 @@
 pub mod Bytes
 pub mod Grammar
 pub mod Text
+pub mod States

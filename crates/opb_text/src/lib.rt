@@ -1,4 +1,17 @@
 // OPB text into load's columns, as document 01 lays it down: a byte automaton that first decides the whole text and then fills.
+ghost use mathlib.Core.Path.{_≡_};
+ghost use mathlib.Core.Bool.{cond};
+ghost use mathlib.Core.List.{[], _∷_, map};
+ghost use Prim.Native.Nat.{_+_, _*_, _-_, _<_, _≤_, min};
+ghost use lib.ListN.{length, set};
+ghost use lib.Seq.{sets, slice};
+ghost use lib.IntN.{pos};
+ghost use lib.Dec.{eqb, leb};
+ghost use Rattle.columns.specs.Columns.{columns};
+ghost use Rattle.opb_text.specs.Bytes.{class-of};
+ghost use Rattle.opb_text.specs.Grammar as grammar;
+ghost use Rattle.opb_text.specs.Text.{reading, read-of, result-of, signed-of, nothing-read, Reads, sentence-room, entry-room};
+ghost use Rattle.opb_text.specs.States.{Sound, answer-at, Decided, both, first-row, copied, with-rows, Room};
 
 // What has been read, and so what may come next.
 pub enum Phase {
@@ -79,4 +92,969 @@ pub struct Read {
     pub constraints: u64,
     pub sentences: u64,
     pub entries: u64,
+}
+
+
+// ---- bytes
+
+const BLANK: u8 = 0;
+
+const DIGIT: u8 = 1;
+
+const PLUS: u8 = 2;
+
+const MINUS: u8 = 3;
+
+const STAR: u8 = 4;
+
+const EX: u8 = 5;
+
+const GREATER: u8 = 6;
+
+const EQUAL: u8 = 7;
+
+const SEMICOLON: u8 = 8;
+
+const CLASSES: [u8; 256] = [
+    9, 9, 9, 9, 9, 9, 9, 9, 9, 0, 0, 9, 9, 0, 9, 9,
+    9, 9, 9, 9, 9, 9, 9, 9, 9, 9, 9, 9, 9, 9, 9, 9,
+    0, 9, 9, 9, 9, 9, 9, 9, 9, 9, 4, 2, 9, 3, 9, 9,
+    1, 1, 1, 1, 1, 1, 1, 1, 1, 1, 9, 8, 9, 7, 6, 9,
+    9, 9, 9, 9, 9, 9, 9, 9, 9, 9, 9, 9, 9, 9, 9, 9,
+    9, 9, 9, 9, 9, 9, 9, 9, 9, 9, 9, 9, 9, 9, 9, 9,
+    9, 9, 9, 9, 9, 9, 9, 9, 9, 9, 9, 9, 9, 9, 9, 9,
+    9, 9, 9, 9, 9, 9, 9, 9, 5, 9, 9, 9, 9, 9, 9, 9,
+    9, 9, 9, 9, 9, 9, 9, 9, 9, 9, 9, 9, 9, 9, 9, 9,
+    9, 9, 9, 9, 9, 9, 9, 9, 9, 9, 9, 9, 9, 9, 9, 9,
+    9, 9, 9, 9, 9, 9, 9, 9, 9, 9, 9, 9, 9, 9, 9, 9,
+    9, 9, 9, 9, 9, 9, 9, 9, 9, 9, 9, 9, 9, 9, 9, 9,
+    9, 9, 9, 9, 9, 9, 9, 9, 9, 9, 9, 9, 9, 9, 9, 9,
+    9, 9, 9, 9, 9, 9, 9, 9, 9, 9, 9, 9, 9, 9, 9, 9,
+    9, 9, 9, 9, 9, 9, 9, 9, 9, 9, 9, 9, 9, 9, 9, 9,
+    9, 9, 9, 9, 9, 9, 9, 9, 9, 9, 9, 9, 9, 9, 9, 9,
+];
+
+// The class of a byte, as the table has it; 9 is a byte of no other class.
+pub fn class(b: u8) -> u8
+    ensures { λ r. ⌜ r ≡ class-of b ⌝ }
+{
+    CLASSES[b as usize]
+}
+
+// ---- numbers
+
+const GREATEST: u64 = 1_000_000_000_000_000_000;
+
+// a + b is at most the limit, told with no sum that could wrap.
+fn within(a: u64, b: u64, limit: u64) -> bool
+    ensures { λ r. ⌜ r ≡ leb (a + b) limit ⌝ }
+{
+    if a > limit {
+        return false;
+    }
+    b <= limit - a
+}
+
+// What a digit stands for; a byte below `0` stands for 0.
+fn value(b: u8) -> u64
+    ensures { λ r. ⌜ r ≡ b - 48 ⌝ }
+{
+    if b < b'0' {
+        return 0;
+    }
+    (b - b'0') as u64
+}
+
+// Ten times the size and a digit, told up to 10^18.
+fn grown(size: u64, digit: u64) -> u64
+    requires { ⌜ digit < 1000 ⌝ }
+    ensures { λ r. ⌜ r ≡ min (size * 10 + digit) 1000000000000000000 ⌝ }
+{
+    if size >= GREATEST / 10 {
+        return GREATEST;
+    }
+    let n = size * 10 + digit;
+    if n < GREATEST {
+        return n;
+    }
+    GREATEST
+}
+
+// One digit more, told up to 19.
+fn counted(digits: u64) -> u64
+    ensures { λ r. ⌜ r ≡ min (digits + 1) 19 ⌝ }
+{
+    if digits < 19 {
+        return digits + 1;
+    }
+    19
+}
+
+fn more(n: Number, b: u8) -> Number
+    ensures { λ r. ⌜ r ≡ grammar.more n b ⌝ }
+{
+    Number {
+        size: grown(n.size, value(b)),
+        digits: counted(n.digits),
+        minus: n.minus,
+    }
+}
+
+// A number of which no digit has been read.
+fn sign(minus: bool) -> Number
+    ensures { λ r. ⌜ r ≡ grammar.signed minus ⌝ }
+{
+    Number {
+        size: 0,
+        digits: 0,
+        minus,
+    }
+}
+
+// ---- states
+
+fn at(s: State, p: Phase) -> State
+    ensures { λ r. ⌜ r ≡ grammar.at s p ⌝ }
+{
+    let number = s.number;
+    let weight = s.weight;
+    let sizes = s.sizes;
+    let counts = s.counts;
+    State {
+        phase: p,
+        matched: s.matched,
+        number,
+        weight,
+        equal: s.equal,
+        sizes,
+        counts,
+    }
+}
+
+fn matching(s: State, p: Phase, matched: u64) -> State
+    ensures { λ r. ⌜ r ≡ grammar.matching s p matched ⌝ }
+{
+    let number = s.number;
+    let weight = s.weight;
+    let sizes = s.sizes;
+    let counts = s.counts;
+    State {
+        phase: p,
+        matched,
+        number,
+        weight,
+        equal: s.equal,
+        sizes,
+        counts,
+    }
+}
+
+fn numbering(s: State, p: Phase, number: Number) -> State
+    ensures { λ r. ⌜ r ≡ grammar.numbering s p number ⌝ }
+{
+    let weight = s.weight;
+    let sizes = s.sizes;
+    let counts = s.counts;
+    State {
+        phase: p,
+        matched: s.matched,
+        number,
+        weight,
+        equal: s.equal,
+        sizes,
+        counts,
+    }
+}
+
+// The number in hand is the weight.
+fn weighing(s: State, p: Phase) -> State
+    ensures { λ r. ⌜ r ≡ grammar.weighing s p ⌝ }
+{
+    let number = s.number;
+    let sizes = s.sizes;
+    let counts = s.counts;
+    State {
+        phase: p,
+        matched: s.matched,
+        number,
+        weight: number,
+        equal: s.equal,
+        sizes,
+        counts,
+    }
+}
+
+fn sizing(s: State, p: Phase, sizes: Sizes) -> State
+    ensures { λ r. ⌜ r ≡ grammar.sizing s p sizes ⌝ }
+{
+    let number = s.number;
+    let weight = s.weight;
+    let counts = s.counts;
+    State {
+        phase: p,
+        matched: 0,
+        number,
+        weight,
+        equal: s.equal,
+        sizes,
+        counts,
+    }
+}
+
+fn counting(s: State, p: Phase, equal: bool, counts: Counts) -> State
+    ensures { λ r. ⌜ r ≡ grammar.counting s p equal counts ⌝ }
+{
+    let number = s.number;
+    let weight = s.weight;
+    let sizes = s.sizes;
+    State {
+        phase: p,
+        matched: s.matched,
+        number,
+        weight,
+        equal,
+        sizes,
+        counts,
+    }
+}
+
+// ---- faults of a number that has ended, 0 for none
+
+fn long_fault(s: State) -> u64
+    ensures { λ r. ⌜ r ≡ grammar.long-fault s ⌝ }
+{
+    let n = s.number;
+    if n.digits < 19 {
+        return 0;
+    }
+    22
+}
+
+fn v_fault(s: State) -> u64
+    ensures { λ r. ⌜ r ≡ grammar.v-fault s ⌝ }
+{
+    let n = s.number;
+    if n.size == 0 {
+        return 21;
+    }
+    long_fault(s)
+}
+
+fn c_fault(s: State) -> u64
+    ensures { λ r. ⌜ r ≡ grammar.c-fault s ⌝ }
+{
+    let n = s.number;
+    let sizes = s.sizes;
+    if within(sizes.variables, n.size, 1024) {
+        return long_fault(s);
+    }
+    21
+}
+
+fn variable_fault(s: State) -> u64
+    ensures { λ r. ⌜ r ≡ grammar.variable-fault s ⌝ }
+{
+    let n = s.number;
+    let sizes = s.sizes;
+    let counts = s.counts;
+    if sizes.variables < n.size {
+        return 21;
+    }
+    if counts.entries < 4096 {
+        return 0;
+    }
+    24
+}
+
+// ---- pieces of the text
+
+// The next byte of a fixed text, in phase p; a number follows in phase q.
+fn expect(text: &[u8], p: Phase, q: Phase, s: State, b: u8) -> Next
+    requires { ⌜ s .matched < length (now text) ⌝ }
+    ensures { λ r. ⌜ r ≡ grammar.expect (now (text .entry)) p q s b ⌝ }
+{
+    let matched = s.matched;
+    let i = matched as usize;
+    if text[i] != b {
+        return Next::Fault(20);
+    }
+    if i + 1 == text.len() {
+        return Next::More(numbering(s, q, sign(false)));
+    }
+    Next::More(matching(s, p, matched + 1))
+}
+
+fn opening(s: State, b: u8) -> Next
+    requires { ⌜ s .matched < 13 ⌝ }
+    ensures { λ r. ⌜ r ≡ grammar.expect grammar.opening Phase.Opening Phase.BeforeV s b ⌝ }
+{
+    expect(b"* #variable= ", Phase::Opening, Phase::BeforeV, s, b)
+}
+
+fn middle(s: State, b: u8) -> Next
+    requires { ⌜ s .matched < 14 ⌝ }
+    ensures { λ r. ⌜ r ≡ grammar.expect grammar.middle Phase.Middle Phase.BeforeC s b ⌝ }
+{
+    expect(b" #constraint= ", Phase::Middle, Phase::BeforeC, s, b)
+}
+
+// A digit, and no other byte.
+fn digits(s: State, p: Phase, b: u8, k: u8) -> Next
+    ensures { λ r. ⌜ r ≡ grammar.digits s p b k ⌝ }
+{
+    let n = s.number;
+    if k == DIGIT {
+        return Next::More(numbering(s, p, more(n, b)));
+    }
+    Next::Fault(20)
+}
+
+// A number that may have a sign: phase p behind the sign, q behind a digit.
+fn begin(p: Phase, q: Phase, s: State, b: u8, k: u8) -> Next
+    ensures { λ r. ⌜ r ≡ grammar.begin p q s b k ⌝ }
+{
+    if k == DIGIT {
+        return Next::More(numbering(s, q, more(sign(false), b)));
+    }
+    if k == PLUS {
+        return Next::More(numbering(s, p, sign(false)));
+    }
+    if k == MINUS {
+        return Next::More(numbering(s, p, sign(true)));
+    }
+    Next::Fault(20)
+}
+
+// Outside constraints: blanks, or a constraint's first term.
+fn between(s: State, b: u8, k: u8) -> Next
+    ensures { λ r. ⌜ r ≡ grammar.between s b k ⌝ }
+{
+    if b == b'\n' {
+        return Next::More(at(s, Phase::LineStart));
+    }
+    if k == BLANK {
+        return Next::More(at(s, Phase::Between));
+    }
+    begin(Phase::WeightSign, Phase::InWeight, s, b, k)
+}
+
+// A term is complete.
+fn term(s: State) -> State
+    requires { ⌜ (s .counts .terms ≤ s .counts .entries) × (s .counts .entries < 4096) ⌝ }
+    ensures { λ r. ⌜ r ≡ grammar.term s ⌝ }
+{
+    let c = s.counts;
+    let counts = Counts {
+        terms: c.terms + 1,
+        entries: c.entries + 1,
+        sentences: c.sentences,
+    };
+    counting(s, Phase::AfterTerm, s.equal, counts)
+}
+
+// `>=` makes one sentence.
+fn relation_at_least(s: State) -> Next
+    ensures { λ r. ⌜ r ≡ grammar.relation-at-least s ⌝ }
+{
+    let c = s.counts;
+    if c.sentences >= 256 {
+        return Next::Fault(24);
+    }
+    let counts = Counts {
+        terms: c.terms,
+        entries: c.entries,
+        sentences: c.sentences + 1,
+    };
+    Next::More(counting(s, Phase::AfterRelation, false, counts))
+}
+
+// `=` makes two sentences, with its terms once more.
+fn relation_equal(s: State) -> Next
+    ensures { λ r. ⌜ r ≡ grammar.relation-equal s ⌝ }
+{
+    let c = s.counts;
+    if c.sentences >= 255 {
+        return Next::Fault(24);
+    }
+    if !within(c.entries, c.terms, 4096) {
+        return Next::Fault(24);
+    }
+    let counts = Counts {
+        terms: c.terms,
+        entries: c.entries + c.terms,
+        sentences: c.sentences + 2,
+    };
+    Next::More(counting(s, Phase::AfterRelation, true, counts))
+}
+
+// Behind the right side: blanks, or `;`.
+fn finish(s: State, k: u8) -> Next
+    ensures { λ r. ⌜ r ≡ grammar.finish s k ⌝ }
+{
+    if k == BLANK {
+        return Next::More(at(s, Phase::AfterBound));
+    }
+    if k != SEMICOLON {
+        return Next::Fault(20);
+    }
+    let c = s.counts;
+    let counts = Counts {
+        terms: 0,
+        entries: c.entries,
+        sentences: c.sentences,
+    };
+    Next::Constraint(counting(s, Phase::Between, s.equal, counts))
+}
+
+// ---- the automaton: a byte b of class k, by the phase
+
+fn in_v(s: State, b: u8, k: u8) -> Next
+    ensures { λ r. ⌜ r ≡ grammar.place Phase.InV s b k ⌝ }
+{
+    if k == DIGIT {
+        return digits(s, Phase::InV, b, k);
+    }
+    let f = v_fault(s);
+    if f != 0 {
+        return Next::Fault(f);
+    }
+    let n = s.number;
+    let sizes = Sizes {
+        variables: n.size,
+        constraints: 0,
+    };
+    middle(sizing(s, Phase::Middle, sizes), b)
+}
+
+fn in_c(s: State, b: u8, k: u8) -> Next
+    ensures { λ r. ⌜ r ≡ grammar.place Phase.InC s b k ⌝ }
+{
+    if k == DIGIT {
+        return digits(s, Phase::InC, b, k);
+    }
+    let f = c_fault(s);
+    if f != 0 {
+        return Next::Fault(f);
+    }
+    let n = s.number;
+    let before = s.sizes;
+    let sizes = Sizes {
+        variables: before.variables,
+        constraints: n.size,
+    };
+    if b == b'\n' {
+        return Next::More(sizing(s, Phase::LineStart, sizes));
+    }
+    if b == b'\r' {
+        return Next::More(sizing(s, Phase::AfterReturn, sizes));
+    }
+    Next::Fault(20)
+}
+
+fn after_return(s: State, b: u8, k: u8) -> Next
+    ensures { λ r. ⌜ r ≡ grammar.place Phase.AfterReturn s b k ⌝ }
+{
+    if b == b'\n' {
+        return Next::More(at(s, Phase::LineStart));
+    }
+    Next::Fault(20)
+}
+
+fn line_start(s: State, b: u8, k: u8) -> Next
+    ensures { λ r. ⌜ r ≡ grammar.place Phase.LineStart s b k ⌝ }
+{
+    if k == STAR {
+        return Next::More(at(s, Phase::Comment));
+    }
+    between(s, b, k)
+}
+
+fn comment(s: State, b: u8, k: u8) -> Next
+    ensures { λ r. ⌜ r ≡ grammar.place Phase.Comment s b k ⌝ }
+{
+    if b == b'\n' {
+        return Next::More(at(s, Phase::LineStart));
+    }
+    Next::More(at(s, Phase::Comment))
+}
+
+fn in_weight(s: State, b: u8, k: u8) -> Next
+    ensures { λ r. ⌜ r ≡ grammar.place Phase.InWeight s b k ⌝ }
+{
+    if k == DIGIT {
+        return digits(s, Phase::InWeight, b, k);
+    }
+    let f = long_fault(s);
+    if f != 0 {
+        return Next::Fault(f);
+    }
+    if k == BLANK {
+        return Next::More(weighing(s, Phase::BeforeX));
+    }
+    Next::Fault(20)
+}
+
+fn before_x(s: State, b: u8, k: u8) -> Next
+    ensures { λ r. ⌜ r ≡ grammar.place Phase.BeforeX s b k ⌝ }
+{
+    if k == BLANK {
+        return Next::More(at(s, Phase::BeforeX));
+    }
+    if k == EX {
+        return Next::More(numbering(s, Phase::BeforeVariable, sign(false)));
+    }
+    Next::Fault(20)
+}
+
+fn before_variable(s: State, b: u8, k: u8) -> Next
+    ensures { λ r. ⌜ r ≡ grammar.place Phase.BeforeVariable s b k ⌝ }
+{
+    if b == b'0' {
+        return Next::Fault(20);
+    }
+    digits(s, Phase::InVariable, b, k)
+}
+
+fn in_variable(s: State, b: u8, k: u8) -> Next
+    requires { ⌜ s .counts .terms ≤ s .counts .entries ⌝ }
+    ensures { λ r. ⌜ r ≡ grammar.place Phase.InVariable s b k ⌝ }
+{
+    if k == DIGIT {
+        return digits(s, Phase::InVariable, b, k);
+    }
+    let f = variable_fault(s);
+    if f != 0 {
+        return Next::Fault(f);
+    }
+    if k == BLANK {
+        return Next::Term(term(s));
+    }
+    Next::Fault(20)
+}
+
+fn after_term(s: State, b: u8, k: u8) -> Next
+    ensures { λ r. ⌜ r ≡ grammar.place Phase.AfterTerm s b k ⌝ }
+{
+    if k == BLANK {
+        return Next::More(at(s, Phase::AfterTerm));
+    }
+    if k == GREATER {
+        return Next::More(at(s, Phase::AfterGreater));
+    }
+    if k == EQUAL {
+        return relation_equal(s);
+    }
+    begin(Phase::WeightSign, Phase::InWeight, s, b, k)
+}
+
+fn after_greater(s: State, b: u8, k: u8) -> Next
+    ensures { λ r. ⌜ r ≡ grammar.place Phase.AfterGreater s b k ⌝ }
+{
+    if k == EQUAL {
+        return relation_at_least(s);
+    }
+    Next::Fault(20)
+}
+
+fn after_relation(s: State, b: u8, k: u8) -> Next
+    ensures { λ r. ⌜ r ≡ grammar.place Phase.AfterRelation s b k ⌝ }
+{
+    if k == BLANK {
+        return Next::More(at(s, Phase::BeforeBound));
+    }
+    Next::Fault(20)
+}
+
+fn before_bound(s: State, b: u8, k: u8) -> Next
+    ensures { λ r. ⌜ r ≡ grammar.place Phase.BeforeBound s b k ⌝ }
+{
+    if k == BLANK {
+        return Next::More(at(s, Phase::BeforeBound));
+    }
+    begin(Phase::BoundSign, Phase::InBound, s, b, k)
+}
+
+fn in_bound(s: State, b: u8, k: u8) -> Next
+    ensures { λ r. ⌜ r ≡ grammar.place Phase.InBound s b k ⌝ }
+{
+    if k == DIGIT {
+        return digits(s, Phase::InBound, b, k);
+    }
+    let f = long_fault(s);
+    if f != 0 {
+        return Next::Fault(f);
+    }
+    finish(s, k)
+}
+
+fn place(s: State, b: u8, k: u8) -> Next
+    requires { ⌜ Sound s ⌝ }
+    ensures { λ r. ⌜ r ≡ grammar.place (s .phase) s b k ⌝ }
+{
+    let p = s.phase;
+    match p {
+        Phase::Opening => opening(s, b),
+        Phase::BeforeV => digits(s, Phase::InV, b, k),
+        Phase::InV => in_v(s, b, k),
+        Phase::Middle => middle(s, b),
+        Phase::BeforeC => digits(s, Phase::InC, b, k),
+        Phase::InC => in_c(s, b, k),
+        Phase::AfterReturn => after_return(s, b, k),
+        Phase::LineStart => line_start(s, b, k),
+        Phase::Between => between(s, b, k),
+        Phase::Comment => comment(s, b, k),
+        Phase::WeightSign => digits(s, Phase::InWeight, b, k),
+        Phase::InWeight => in_weight(s, b, k),
+        Phase::BeforeX => before_x(s, b, k),
+        Phase::BeforeVariable => before_variable(s, b, k),
+        Phase::InVariable => in_variable(s, b, k),
+        Phase::AfterTerm => after_term(s, b, k),
+        Phase::AfterGreater => after_greater(s, b, k),
+        Phase::AfterRelation => after_relation(s, b, k),
+        Phase::BeforeBound => before_bound(s, b, k),
+        Phase::BoundSign => digits(s, Phase::InBound, b, k),
+        Phase::InBound => in_bound(s, b, k),
+        Phase::AfterBound => finish(s, k),
+    }
+}
+
+fn step(s: State, b: u8) -> Next
+    requires { ⌜ Sound s ⌝ }
+    ensures { λ r. ⌜ r ≡ grammar.step s b ⌝ }
+{
+    place(s, b, class(b))
+}
+
+// ---- the end of the text
+
+fn cut_off(fault: u64) -> u64
+    ensures { λ r. ⌜ r ≡ grammar.cut-off fault ⌝ }
+{
+    if fault == 0 {
+        return 20;
+    }
+    fault
+}
+
+fn ends(s: State) -> u64
+    ensures { λ r. ⌜ r ≡ grammar.ends (s .phase) s ⌝ }
+{
+    let p = s.phase;
+    match p {
+        Phase::InV => cut_off(v_fault(s)),
+        Phase::InC => cut_off(c_fault(s)),
+        Phase::InWeight => cut_off(long_fault(s)),
+        Phase::InVariable => cut_off(variable_fault(s)),
+        Phase::InBound => cut_off(long_fault(s)),
+        Phase::LineStart => 0,
+        Phase::Between => 0,
+        Phase::Comment => 0,
+        _ => 20,
+    }
+}
+
+// ---- first pass: the whole text is decided
+
+fn start() -> State
+    ensures { λ r. ⌜ r ≡ grammar.begins ⌝ }
+{
+    let number = sign(false);
+    let sizes = Sizes {
+        variables: 0,
+        constraints: 0,
+    };
+    let counts = Counts {
+        terms: 0,
+        entries: 0,
+        sentences: 0,
+    };
+    State {
+        phase: Phase::Opening,
+        matched: 0,
+        number,
+        weight: number,
+        equal: false,
+        sizes,
+        counts,
+    }
+}
+
+fn refusal(code: u64, value: u64) -> Read
+    ensures { λ r. ⌜ r ≡ nothing-read code value ⌝ }
+{
+    Read {
+        code,
+        value,
+        variables: 0,
+        constraints: 0,
+        sentences: 0,
+        entries: 0,
+    }
+}
+
+// The answer at the end of the text, with `complete` constraints, and room for so many sentences and entries.
+fn answer(s: State, complete: u64, sentences: u64, entries: u64) -> Read
+    ensures { λ r. ⌜ r ≡ answer-at sentences entries s complete ⌝ }
+{
+    let code = ends(s);
+    if code != 0 {
+        return refusal(code, complete);
+    }
+    let sizes = s.sizes;
+    if complete != sizes.constraints {
+        return refusal(21, complete);
+    }
+    let counts = s.counts;
+    if sentences < counts.sentences {
+        return refusal(18, counts.sentences);
+    }
+    if entries < counts.entries {
+        return refusal(18, counts.entries);
+    }
+    Read {
+        code: 0,
+        value: 0,
+        variables: sizes.variables,
+        constraints: complete,
+        sentences: counts.sentences,
+        entries: counts.entries,
+    }
+}
+
+// The answer of the reader, before a word is written.
+fn decide(text: &[u8], sentences: u64, entries: u64) -> Read
+    ensures { λ r. ⌜ r ≡ read-of sentences entries (reading (now (text .entry))) ⌝ }
+{
+    if text.len() > 65536 {
+        return refusal(23, 0);
+    }
+    let mut s = start();
+    let mut complete: u64 = 0;
+    let mut i = 0;
+    while i < text.len() {
+        let b = text[i];
+        i += 1;
+        match step(s, b) {
+            Next::More(t) => {
+                s = t;
+            }
+            Next::Term(t) => {
+                s = t;
+            }
+            Next::Constraint(t) => {
+                complete += 1;
+                s = t;
+            }
+            Next::Fault(n) => {
+                return refusal(n, complete);
+            }
+        }
+    }
+    answer(s, complete, sentences, entries)
+}
+
+// ---- second pass: the columns are filled
+
+fn signed_value(n: Number) -> i64
+    requires { ⌜ n .size ≤ 1000000000000000000 ⌝ }
+    ensures { λ r. ⌜ r ≡ signed-of n ⌝ }
+{
+    let size = n.size as i64;
+    if n.minus {
+        return 0 - size;
+    }
+    size
+}
+
+// The term that has just been read, behind the entries before it.
+fn put_term(s: State, weights: &mut [i64], literals: &mut [i64])
+    requires { ⌜ (s .counts .entries < length (now weights)) × (s .counts .entries < length (now literals)) × (s .weight .size ≤ 1000000000000000000) × (s .number .size ≤ 1000000000000000000) ⌝ }
+    ensures { λ _. ⌜ now (weights .exit) ≡ set (now (weights .entry)) (s .counts .entries) (signed-of (s .weight)) ⌝ }
+    ensures { λ _. ⌜ now (literals .exit) ≡ set (now (literals .entry)) (s .counts .entries) (pos (s .number .size)) ⌝ }
+{
+    let counts = s.counts;
+    let number = s.number;
+    let weight = s.weight;
+    let at = counts.entries as usize;
+    weights[at] = signed_value(weight);
+    literals[at] = number.size as i64;
+}
+
+// A number in each row of the constraint that has just been read: one row, or for `=` two.
+fn put(column: &mut [u64], s: State, x: u64, y: u64)
+    requires { ⌜ (cond (s .equal) 2 1 ≤ s .counts .sentences) × (s .counts .sentences ≤ length (now column)) ⌝ }
+    ensures { λ _. ⌜ now (column .exit) ≡ sets (now (column .entry)) (first-row s) (both (s .equal) x y) ⌝ }
+{
+    let counts = s.counts;
+    let end = counts.sentences as usize;
+    if !s.equal {
+        column[end - 1] = x;
+        return;
+    }
+    column[end - 2] = x;
+    column[end - 1] = y;
+}
+
+// Its bound.
+fn put_bound(column: &mut [i64], s: State)
+    requires { ⌜ (cond (s .equal) 2 1 ≤ s .counts .sentences) × (s .counts .sentences ≤ length (now column)) × (s .number .size ≤ 1000000000000000000) ⌝ }
+    ensures { λ _. ⌜ now (column .exit) ≡ sets (now (column .entry)) (first-row s) (both (s .equal) (signed-of (s .number)) (signed-of (s .number))) ⌝ }
+{
+    let counts = s.counts;
+    let number = s.number;
+    let end = counts.sentences as usize;
+    let bound = signed_value(number);
+    if !s.equal {
+        column[end - 1] = bound;
+        return;
+    }
+    column[end - 2] = bound;
+    column[end - 1] = bound;
+}
+
+// The `count` numbers from `from` on, once more behind them.
+fn repeat(column: &mut [i64], from: usize, count: usize)
+    requires { ⌜ from + count + count ≤ length (now column) ⌝ }
+    ensures { λ _. ⌜ now (column .exit) ≡ sets (now (column .entry)) (from + count) (slice from (from + count) (now (column .entry))) ⌝ }
+{
+    let to = from + count;
+    let mut i = 0;
+    while i < count {
+        let x = column[from + i];
+        column[to + i] = x;
+        i += 1;
+    }
+}
+
+// The terms of the constraint that has just been read, for `=` once more.
+fn copy(column: &mut [i64], s: State)
+    requires { ⌜ (cond (s .equal) (s .counts .terms + s .counts .terms) 0 ≤ s .counts .entries) × (s .counts .entries ≤ length (now column)) ⌝ }
+    ensures { λ _. ⌜ now (column .exit) ≡ copied s (now (column .entry)) ⌝ }
+{
+    let counts = s.counts;
+    if !s.equal {
+        return;
+    }
+    let terms = counts.terms as usize;
+    let from = counts.entries as usize - terms - terms;
+    repeat(column, from, terms);
+}
+
+// The rows of the constraint that has just been read.
+fn put_rows(
+    s: State,
+    head: u64,
+    heads: &mut [u64],
+    kinds: &mut [u64],
+    sides: &mut [u64],
+    bounds: &mut [i64],
+    counts: &mut [u64],
+    weights: &mut [i64],
+    literals: &mut [i64],
+)
+    requires { ⌜ Room s (columns (now heads) (now kinds) (now sides) (now bounds) (now counts) (now weights) (now literals)) ⌝ }
+    ensures { λ _. ⌜ columns (now (heads .exit)) (now (kinds .exit)) (now (sides .exit)) (now (bounds .exit)) (now (counts .exit)) (now (weights .exit)) (now (literals .exit)) ≡ with-rows s head (columns (now (heads .entry)) (now (kinds .entry)) (now (sides .entry)) (now (bounds .entry)) (now (counts .entry)) (now (weights .entry)) (now (literals .entry))) ⌝ }
+{
+    let c = s.counts;
+    put(heads, s, head, head);
+    put(kinds, s, 0, 0);
+    put(sides, s, 0, 1);
+    put_bound(bounds, s);
+    put(counts, s, c.terms, c.terms);
+    copy(weights, s);
+    copy(literals, s);
+}
+
+// Constraint j has head V + j.
+fn fill(
+    text: &[u8],
+    r: Read,
+    heads: &mut [u64],
+    kinds: &mut [u64],
+    sides: &mut [u64],
+    bounds: &mut [i64],
+    counts: &mut [u64],
+    weights: &mut [i64],
+    literals: &mut [i64],
+)
+    requires { ⌜ Decided (now text) (columns (now heads) (now kinds) (now sides) (now bounds) (now counts) (now weights) (now literals)) r ⌝ }
+    ensures { λ _. ⌜ columns (now (heads .exit)) (now (kinds .exit)) (now (sides .exit)) (now (bounds .exit)) (now (counts .exit)) (now (weights .exit)) (now (literals .exit)) ≡ result-of (reading (now (text .entry))) (columns (now (heads .entry)) (now (kinds .entry)) (now (sides .entry)) (now (bounds .entry)) (now (counts .entry)) (now (weights .entry)) (now (literals .entry))) ⌝ }
+{
+    let mut s = start();
+    let mut head = r.variables + 1;
+    let mut i = 0;
+    while i < text.len() {
+        let b = text[i];
+        i += 1;
+        match step(s, b) {
+            Next::More(t) => {
+                s = t;
+            }
+            Next::Term(t) => {
+                put_term(s, &mut *weights, &mut *literals);
+                s = t;
+            }
+            Next::Constraint(t) => {
+                put_rows(
+                    s,
+                    head,
+                    &mut *heads,
+                    &mut *kinds,
+                    &mut *sides,
+                    &mut *bounds,
+                    &mut *counts,
+                    &mut *weights,
+                    &mut *literals,
+                );
+                head += 1;
+                s = t;
+            }
+            Next::Fault(_) => {
+                return;
+            }
+        }
+    }
+}
+
+// ---- the reader
+
+fn least(a: u64, b: u64) -> u64
+    ensures { λ r. ⌜ r ≡ min a b ⌝ }
+{
+    if a < b {
+        return a;
+    }
+    b
+}
+
+// A text into the columns that load takes: decided as a whole first, refused by document 01's numbers, and then stored. Words past the
+// result keep their contents, and a refusal leaves all as they were.
+pub fn read_text(
+    text: &[u8],
+    heads: &mut [u64],
+    kinds: &mut [u64],
+    sides: &mut [u64],
+    bounds: &mut [i64],
+    counts: &mut [u64],
+    weights: &mut [i64],
+    literals: &mut [i64],
+) -> Read
+    ensures { λ r. ⌜ Reads (now (text .entry)) (columns (now (heads .entry)) (now (kinds .entry)) (now (sides .entry)) (now (bounds .entry)) (now (counts .entry)) (now (weights .entry)) (now (literals .entry))) (columns (now (heads .exit)) (now (kinds .exit)) (now (sides .exit)) (now (bounds .exit)) (now (counts .exit)) (now (weights .exit)) (now (literals .exit))) r ⌝ }
+{
+    let sentences = least(
+        heads.len() as u64,
+        least(
+            kinds.len() as u64,
+            least(
+                sides.len() as u64,
+                least(bounds.len() as u64, counts.len() as u64),
+            ),
+        ),
+    );
+    let entries = least(weights.len() as u64, literals.len() as u64);
+    let r = decide(text, sentences, entries);
+    if r.code == 0 {
+        fill(text, r, heads, kinds, sides, bounds, counts, weights, literals);
+    }
+    r
 }

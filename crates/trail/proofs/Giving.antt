@@ -94,7 +94,7 @@ module _ (lim : Limits) (w : List ℕ) (c : Counters) (u : Usable lim w c) (l : 
         derived = λ s e. let b : ⊥ = omega (arith, level-small) in absurd b;
       }
 
-      has-effect : reply (area-state lim w) (give l) ≡ effect (area-state lim w) (give l)
+      pub has-effect : reply (area-state lim w) (give l) ≡ effect (area-state lim w) (give l)
       has-effect =
           by-trail
           ∙ ap {A = Bool} (λ b. cond b (unchanged (area-state lim w) (refused 11 0)) (effect (area-state lim w) (give l)))

@@ -1,0 +1,67 @@
+-- Refused, too few lent words, or the counters after the call at their front. Assumes nothing.
+use mathlib.Core.Path.{refl}
+use native.Mathlib.Omega.{arith}
+use mir.Syntax.{w64}
+use mir.ValLaws.{toZ-ofZ}
+use mathlib.Core.List.{[]}
+use Rattle.types.specs.Limits.{base}
+use Rattle.whole.specs.Parts.{counters}
+use Rattle.calls.specs.Calls.{area-state, counted, done-paper}
+use Rattle.dalelead_c.specs.Interface.{next-counters}
+use Rattle.book.specs.Table.{give}
+use Rattle.dalelead_c.proofs.Telling.{give-plain}
+use Rattle.dalelead_c.proofs.Changing.{moved-counters, changes-short}
+use Rattle.dalelead_c.proofs.Finishing.{changes-finished}
+use borrow.Author.Needs.{needs}
+use Rattle.dalelead_c.proofs.dalelead_give.Statement.{statement}
+use Rattle.dalelead_c.proofs.dalelead_give.Tie as tie
+
+give-short-requires : tie.Need-give-short-requires
+give-short-requires c κs = search needs
+
+same-length : tie.Need-same-length
+same-length c = search needs
+
+returns : tie.Need-returns
+returns c = let s = c .before .before .before .before .before in
+    changes-short (s .args .area .now) (counters (s .args .length) (s .args .level)) (give (s .args .literal)) next-counters (s .args .next .now) 2
+    (c .give-short .result) refl (omega arith)
+    (rw (toZ-ofZ w64 (s .args .literal) (s .fits .literal)) at (c .give-short .ensures))
+
+give-requires : tie.Need-give-requires
+give-requires c κs = search needs
+
+finish-requires : tie.Need-finish-requires
+finish-requires c κs = search needs
+
+same-length-2 : tie.Need-same-length-2
+same-length-2 c = search needs
+
+same-length-3 : tie.Need-same-length-3
+same-length-3 c = search needs
+
+returns-2 : tie.Need-returns-2
+returns-2 c = let s = c .before .before .before .before .before .before .before .before .before .before .before in
+    let w = s .args .area .now in
+    let w′ = c .before .before .before .before .before .before .give .last .0 in
+    let had = counters (s .args .length) (s .args .level) in
+    let d = c .before .before .before .before .before .before .give .result in
+    let x = give (s .args .literal) in
+    let plain = give-plain (area-state base w) (s .args .literal) in
+    let acts = (rw (toZ-ofZ w64 (s .args .literal) (s .fits .literal)) at (c .before .before .before .before .before .before .give .ensures)) in
+    changes-finished w w′ had x d (s .args .next .now) (c .before .before .finish .last .1 .0) (c .before .before .finish .result) acts plain
+    (λ e g. moved-counters w had x next-counters [] w′ (counted (d .counters)) (done-paper d) acts plain e g refl) (omega arith)
+    (c .before .before .finish .ensures)
+
+pub dalelead-give-spec : {M : Type 1} → statement M
+dalelead-give-spec =
+    tie.close
+    (tie.spec
+    give-short-requires
+    same-length
+    returns
+    give-requires
+    finish-requires
+    same-length-2
+    same-length-3
+    returns-2)

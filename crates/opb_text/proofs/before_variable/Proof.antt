@@ -1,0 +1,21 @@
+-- One return for each test, in the order of the definition.
+-- Assumes nothing.
+use borrow.Author.Needs.{needs}
+use borrow.Author.Tests.{eq-eqb, ne-eqb}
+use Rattle.opb_text.specs.Grammar.{place}
+use Rattle.opb_text.proofs.before_variable.Statement.{statement}
+use Rattle.opb_text.proofs.before_variable.Tie as tie
+
+returns : tie.Need-returns
+unfolding place
+returns c = simp (eq-eqb _ _ (c .if1 .taken))
+
+digits-requires : tie.Need-digits-requires
+digits-requires c κs = search needs
+
+returns-2 : tie.Need-returns-2
+unfolding place
+returns-2 c = simp (c .digits .ensures, ne-eqb _ _ (c .before .if1 .left))
+
+pub before-variable-spec : {M : Type 1} → statement M
+before-variable-spec = tie.close (tie.spec returns digits-requires returns-2)
