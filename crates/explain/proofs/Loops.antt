@@ -29,7 +29,7 @@ pick-few (l ∷ t) a rest = go (eqb (atom l) a) (pick-few t a rest)
     go true ih = omega arith
     go false ih = ih
 
-causes-few : (t : List ℤ) (sc : List ℕ) → length (causes t sc) ≤ length sc
+pub causes-few : (t : List ℤ) (sc : List ℕ) → length (causes t sc) ≤ length sc
 unfolding causes
 causes-few t [] = omega arith
 causes-few t (a ∷ sc) = omega (arith, pick-few t a (causes t sc), causes-few t sc)
