@@ -1,0 +1,53 @@
+-- The next word and the next entry, read off the answers.
+-- Assumes nothing.
+use mathlib.Core.List.{List, [], _∷_}
+use mathlib.Core.Path.{_≡_, subst, ap, _∙_}
+use Prim.Native.Nat.{ℕ, suc, _-_, _<_}
+use native.Mathlib.Omega.{arith}
+use lib.Dec.{eqb}
+use lib.IntN.{ℤ}
+use lib.ListN.{length, take, drop, getD}
+use lib.Seq.{drop-cons}
+use Rattle.console_text.specs.declared.Next.{Next}
+use Rattle.console_text.specs.declared.Next.the-variants.{Word, End}
+use Rattle.console_text.specs.declared.Taken.{Taken}
+use Rattle.console_text.specs.declared.Taken.the-variants.{Entry, Wrong, Nothing}
+use Rattle.console_text.specs.Command.{kind-of, side-of, entry-count, rule, rule-of, comment}
+use Rattle.console_text.specs.Cursor.{WordAt, NextWord, EntryAt, NoEntry, NextEntry}
+use Rattle.console_text.specs.Numbers.{signed-of}
+use Rattle.console_text.specs.Words.{words, Word as Bytes}
+
+pub found : {line : List ℕ} {at : ℕ} {n : Next} {from to : ℕ} → NextWord line at n → n ≡ Word from to → WordAt line at from to
+found {line} {at} f e = subst (λ (n : Next). NextWord line at n) e f
+
+pub ended : (line : List ℕ) (at : ℕ) {n : Next} → NextWord line at n → n ≡ End → words (drop at line) ≡ []
+ended line at f e = subst (λ (n : Next). NextWord line at n) e f
+
+-- a word, and the words behind it
+pub then : {line : List ℕ} {at from to : ℕ} {ws : List Bytes} → WordAt line at from to → words (drop to line) ≡ ws →
+    words (drop at line) ≡ take (to - from) (drop from line) ∷ ws
+then {line} {at} {from} {to} w e = w .words-are ∙ ap (λ (ws : List Bytes). take (to - from) (drop from line) ∷ ws) e
+
+pub entry-found : {line : List ℕ} {at : ℕ} {t : Taken} {x y : ℤ} {to : ℕ} → NextEntry line at t → t ≡ Entry x y to → EntryAt line at x y to
+entry-found {line} {at} f e = subst (λ (t : Taken). NextEntry line at t) e f
+
+pub wrong-found : {line : List ℕ} {at : ℕ} {t : Taken} → NextEntry line at t → t ≡ Wrong → NoEntry line at
+wrong-found {line} {at} f e = subst (λ (t : Taken). NextEntry line at t) e f
+
+pub nothing-found : (line : List ℕ) (at : ℕ) {t : Taken} → NextEntry line at t → t ≡ Nothing → words (drop at line) ≡ []
+nothing-found line at f e = subst (λ (t : Taken). NextEntry line at t) e f
+
+-- a word begins with the byte at its place
+pub comment-told : {line : List ℕ} {at from to : ℕ} → WordAt line at from to → comment (take (to - from) (drop from line)) ≡ eqb (getD line from 0) 35
+comment-told {line} {at} {from} {to} w =
+    let size : to - from ≡ suc (to - from - 1) = omega (arith, w .some) in
+    let inside : from < length line = omega (arith, w .some, w .fits) in
+    rw (size, drop-cons line from 0 inside)
+
+-- four words and the words behind them, as a rule
+pub rule-told : {line : List ℕ} {at a b c d e f g to : ℕ} → WordAt line at a b → WordAt line b c d → WordAt line d e f → WordAt line f g to →
+    rule-of (words (drop at line)) ≡
+    rule (signed-of (take (b - a) (drop a line))) (kind-of (take (d - c) (drop c line))) (side-of (take (f - e) (drop e line)))
+    (signed-of (take (to - g) (drop g line)))
+    (entry-count (words (drop to line)))
+rule-told h k s b = ap rule-of (then h (then k (then s (b .words-are))))

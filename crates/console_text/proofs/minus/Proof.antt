@@ -1,0 +1,43 @@
+-- -n is -1 - (n - 1), which fits up to n = 2^63. Assumes nothing.
+use mathlib.Core.Path.{sym}
+use native.Mathlib.Omega.{arith}
+use borrow.Author.Needs.{needs}
+use Rattle.console_text.proofs.Numbers.{minus-large, minus-zero, opposite-safe, minus-fits}
+use Rattle.console_text.proofs.minus.Statement.{statement}
+use Rattle.console_text.proofs.minus.Tie as tie
+
+enum-known-x : tie.Need-enum-known-x
+enum-known-x c = search needs
+
+enum-told : tie.Need-enum-told
+enum-told c = search needs
+
+returns : tie.Need-returns
+returns c = search needs
+
+returns-2 : tie.Need-returns-2
+returns-2 c = let g = c .before .before .x .given in
+    sym (minus-large _ (g .0 .0) (g .1) (c .if1 .taken))
+
+returns-3 : tie.Need-returns-3
+returns-3 c = let g = c .before .before .before .x .given in
+    sym (minus-zero _ (g .0 .0) (g .1) (c .if2 .taken))
+
+sub-t4 : tie.Need-sub-t4
+sub-t4 c = search needs
+
+cast-t5 : tie.Need-cast-t5
+cast-t5 c = search needs
+
+sub-t6 : tie.Need-sub-t6
+sub-t6 c = let g = c .before .before .before .x .given in
+    opposite-safe (g .0 .0) (omega arith) (c .before .if1 .left)
+
+returns-4 : tie.Need-returns-4
+returns-4 c = let g = c .before .before .before .x .given in
+    sym (minus-fits _ (g .0 .0) (g .1) (omega arith) (c .before .if1 .left))
+
+pub minus-spec : {M : Type 1} → statement M
+minus-spec =
+    tie.close
+    (tie.spec enum-known-x enum-told returns returns-2 returns-3 sub-t4 cast-t5 sub-t6 returns-4)

@@ -1,0 +1,131 @@
+-- What is left to store gives the whole columns (`Stored`). Assumes nothing.
+use mathlib.Core.Path.{refl, ap}
+use Prim.Native.Nat.{_-_}
+use native.Mathlib.Omega.{arith}
+use lib.ListN.{length}
+use mir.Syntax.{w64}
+use mir.ValLaws.{toZ-ofZ}
+use borrow.Author.Needs.{needs}
+use Rattle.console_text.specs.Command.{entries-of}
+use Rattle.console_text.proofs.Cursor.{entry-found, wrong-found, nothing-found}
+use Rattle.console_text.proofs.Entries.{Stored, one-stored, all-stored, full}
+use Rattle.console_text.proofs.read_entries.Statement.{statement}
+use Rattle.console_text.proofs.read_entries.Tie as tie
+
+abbrev Inv-loop : tie.InvT-loop
+Inv-loop line weights₀ literals₀ at most k₀ from₀ weights literals k from = Stored line weights₀ literals₀ at weights literals k from
+
+abbrev μ-loop : tie.MeasureT-loop
+μ-loop line weights₀ literals₀ at most k₀ from₀ weights literals k from = length line - from
+
+larger-requires : tie.Need-larger-requires Inv-loop μ-loop
+larger-requires c κs = search needs
+
+skip-five-requires : tie.Need-skip-five-requires Inv-loop μ-loop
+skip-five-requires c κs = search needs
+
+loop-holds : tie.Need-loop-holds Inv-loop μ-loop
+loop-holds c = let e = c .skip-five .ensures .1 in
+    record { fits = c .skip-five .ensures .0; weights-same = refl; literals-same = refl; weights-are = rw e; literals-are = rw e }
+
+take-entry-requires : tie.Need-take-entry-requires Inv-loop μ-loop
+take-entry-requires c κs = c .before .loop .inv .fits
+
+enum-told : tie.Need-enum-told Inv-loop μ-loop
+enum-told c = search needs
+
+same-length : tie.Need-same-length Inv-loop μ-loop
+same-length c = let p = c .before .before .before .before in
+    p .loop .inv .weights-same
+
+same-length-2 : tie.Need-same-length-2 Inv-loop μ-loop
+same-length-2 c = let p = c .before .before .before .before in
+    p .loop .inv .literals-same
+
+returns : tie.Need-returns Inv-loop μ-loop
+unfolding entries-of
+returns c = let p = c .before .before .before .before in let s = p .before .before .before .before in
+    all-stored (p .loop .inv) (ap entries-of (nothing-found (s .args .line .now) (p .loop .from) (c .before .before .take-entry .ensures) (c
+    .enum-told .given .1)))
+
+enum-told-2 : tie.Need-enum-told-2 Inv-loop μ-loop
+enum-told-2 c = search needs
+
+same-length-3 : tie.Need-same-length-3 Inv-loop μ-loop
+same-length-3 c = let p = c .before .before .before .before in
+    p .loop .inv .weights-same
+
+same-length-4 : tie.Need-same-length-4 Inv-loop μ-loop
+same-length-4 c = let p = c .before .before .before .before in
+    p .loop .inv .literals-same
+
+returns-2 : tie.Need-returns-2 Inv-loop μ-loop
+returns-2 c = let p = c .before .before .before .before in
+    all-stored (p .loop .inv) (wrong-found (c .before .before .take-entry .ensures) (c .enum-told2 .given .1) .entries-are)
+
+enum-known-next : tie.Need-enum-known-next Inv-loop μ-loop
+enum-known-next c = search needs
+
+store-requires : tie.Need-store-requires Inv-loop μ-loop
+store-requires c κs = search needs
+
+store-requires-2 : tie.Need-store-requires-2 Inv-loop μ-loop
+store-requires-2 c κs = search needs
+
+add-k : tie.Need-add-k Inv-loop μ-loop
+add-k c = omega arith
+
+loop-less : tie.Need-loop-less Inv-loop μ-loop
+loop-less c = let nx = c .before .before .before .before .before .before .before in let te = nx .before .before in
+    let e = entry-found (te .take-entry .ensures) (nx .next .given .1) in omega (arith, e .some, e .fits)
+
+loop-again : tie.Need-loop-again Inv-loop μ-loop
+loop-again c = let sx = c .before .before .before .before in let kt = sx .before .before in let nx = kt .before in
+    let te = nx .before .before in let p = te .before .before in let t = kt .known-told .given in
+    rw (
+      sx .store .ensures,
+      c .before .store2 .ensures,
+      toZ-ofZ w64 _ (record { sfits = t .0 .1 }),
+      toZ-ofZ w64 _ (record { sfits = t .1 .0 .1 }),
+    ) (one-stored (p .loop .inv) (entry-found (te .take-entry .ensures) (nx .next .given .1)))
+
+same-length-5 : tie.Need-same-length-5 Inv-loop μ-loop
+same-length-5 c = c .before .loop .inv .weights-same
+
+same-length-6 : tie.Need-same-length-6 Inv-loop μ-loop
+same-length-6 c = c .before .loop .inv .literals-same
+
+returns-3 : tie.Need-returns-3 Inv-loop μ-loop
+returns-3 c = full (c .before .loop .inv) (omega (
+  arith,
+  c .before .before .before .larger .ensures .0,
+  c .before .loop .inv .weights-same,
+)) (omega (arith, c .before .before .before .larger .ensures .1, c .before .loop .inv .literals-same))
+
+pub read-entries-spec : {M : Type 1} → statement M
+read-entries-spec =
+    tie.close
+    (tie.spec
+    Inv-loop
+    μ-loop
+    larger-requires
+    skip-five-requires
+    loop-holds
+    take-entry-requires
+    enum-told
+    same-length
+    same-length-2
+    returns
+    enum-told-2
+    same-length-3
+    same-length-4
+    returns-2
+    enum-known-next
+    store-requires
+    store-requires-2
+    add-k
+    loop-less
+    loop-again
+    same-length-5
+    same-length-6
+    returns-3)
