@@ -5,94 +5,55 @@ use types::Atom;
 use types::Counters;
 use types::Level;
 use types::Sentence;
-ghost use Prim.Native.Nat.{_+_, _≤_};
+ghost use Prim.Native.Nat.{_≤_};
 
-// ---- output: bytes are gathered in a page, which is written when it is full
+// ---- output: lines are put together in a page, which has room for the longest listing, and written at once
 
-// The place behind the byte.
-fn put(page: &mut [u8; 4096], at: usize, b: u8) -> usize {
-    if at < 4096 {
-        page[at] = b;
-        return at + 1;
+fn write(page: &[u8], end: usize) {
+    if end <= page.len() {
+        io::write_all(1, &page[0..end]);
     }
-    io::write_all(1, page);
-    page[0] = b;
-    1
-}
-
-fn put_text(page: &mut [u8; 4096], at: usize, text: &[u8]) -> usize {
-    let mut place = at;
-    let mut i = 0;
-    while i < text.len() {
-        let b = text[i];
-        i += 1;
-        place = put(page, place, b);
-    }
-    place
-}
-
-fn put_number(page: &mut [u8; 4096], at: usize, n: u64) -> usize {
-    let mut digits = [0u8; 20];
-    let k = io::decimal(n, &mut digits);
-    put_text(page, at, &digits[..k])
-}
-
-fn put_signed(page: &mut [u8; 4096], at: usize, x: i64) -> usize {
-    let mut place = at;
-    if signed::negative(x) {
-        place = put(page, place, b'-');
-    }
-    put_number(page, place, signed::size(x))
-}
-
-// What is left in the page.
-fn flush(page: [u8; 4096], at: usize) {
-    if at < 4096 {
-        io::write_all(1, &page[..at]);
-        return;
-    }
-    io::write_all(1, &page);
 }
 
 // A refusal: of the text, with the constraints complete before the fault, or of load, with its sentence.
 fn refused(code: u64, value: u64) {
-    let mut page = [0u8; 4096];
-    let a = put_text(&mut page, 0, b"refused ");
-    let b = put_number(&mut page, a, code);
-    let c = put(&mut page, b, b' ');
-    let d = put_number(&mut page, c, value);
-    let e = put(&mut page, d, b'\n');
-    flush(page, e);
+    let mut page = [0u8; 64];
+    let a = lines::put_bytes(&mut page, 0, b"refused ");
+    let b = lines::put_number(&mut page, a, code);
+    let c = lines::put_bytes(&mut page, b, b" ");
+    let d = lines::put_number(&mut page, c, value);
+    let e = lines::put_bytes(&mut page, d, b"\n");
+    write(&page, e);
 }
 
 // ---- the listing
 
-fn put_answer(page: &mut [u8; 4096], answer: Searched) -> usize {
+fn put_answer(page: &mut [u8], answer: Searched) -> usize {
     let sentence = answer.sentence;
     if sentence.0 == 0 {
-        let a = put_text(page, 0, b"still ");
-        let b = put_number(page, a, answer.count);
-        return put(page, b, b'\n');
+        let a = lines::put_bytes(page, 0, b"still ");
+        let b = lines::put_number(page, a, answer.count);
+        return lines::put_bytes(page, b, b"\n");
     }
-    let a = put_text(page, 0, b"conflict ");
-    let b = put_number(page, a, answer.count);
-    let c = put(page, b, b' ');
-    let d = put_number(page, c, sentence.0);
-    put(page, d, b'\n')
+    let a = lines::put_bytes(page, 0, b"conflict ");
+    let b = lines::put_number(page, a, answer.count);
+    let c = lines::put_bytes(page, b, b" ");
+    let d = lines::put_number(page, c, sentence.0);
+    lines::put_bytes(page, d, b"\n")
 }
 
-fn put_row(page: &mut [u8; 4096], at: usize, literal: i64, level: i64, reason: i64) -> usize {
-    let a = put_text(page, at, b"t ");
-    let b = put_signed(page, a, literal);
-    let c = put(page, b, b' ');
-    let d = put_signed(page, c, level);
-    let e = put(page, d, b' ');
-    let f = put_signed(page, e, reason);
-    put(page, f, b'\n')
+fn put_row(page: &mut [u8], at: usize, literal: i64, level: i64, reason: i64) -> usize {
+    let a = lines::put_bytes(page, at, b"t ");
+    let b = lines::put_signed(page, a, literal);
+    let c = lines::put_bytes(page, b, b" ");
+    let d = lines::put_signed(page, c, level);
+    let e = lines::put_bytes(page, d, b" ");
+    let f = lines::put_signed(page, e, reason);
+    lines::put_bytes(page, f, b"\n")
 }
 
 // Three numbers a row.
-fn put_rows(page: &mut [u8; 4096], at: usize, list: &[i64]) -> usize {
+fn put_rows(page: &mut [u8], at: usize, list: &[i64]) -> usize {
     let rows = list.len() / 3;
     let mut place = at;
     let mut i = 0;
@@ -106,7 +67,7 @@ fn put_rows(page: &mut [u8; 4096], at: usize, list: &[i64]) -> usize {
     place
 }
 
-fn put_trail(page: &mut [u8; 4096], at: usize, area: &[u64], counters: Counters) -> usize {
+fn put_trail(page: &mut [u8], at: usize, area: &[u64], counters: Counters) -> usize {
     let mut list = [0i64; 3072];
     let r = dalelead::list_trail(area, counters, &mut list);
     let n = r.value as usize;
@@ -116,18 +77,24 @@ fn put_trail(page: &mut [u8; 4096], at: usize, area: &[u64], counters: Counters)
     put_rows(page, at, &list[..n])
 }
 
-fn put_bound(page: &mut [u8; 4096], at: usize, sentence: u64, least: i64, greatest: i64) -> usize {
-    let a = put_text(page, at, b"b ");
-    let b = put_number(page, a, sentence);
-    let c = put(page, b, b' ');
-    let d = put_signed(page, c, least);
-    let e = put(page, d, b' ');
-    let f = put_signed(page, e, greatest);
-    put(page, f, b'\n')
+fn put_bound(page: &mut [u8], at: usize, sentence: u64, least: i64, greatest: i64) -> usize {
+    let a = lines::put_bytes(page, at, b"b ");
+    let b = lines::put_number(page, a, sentence);
+    let c = lines::put_bytes(page, b, b" ");
+    let d = lines::put_signed(page, c, least);
+    let e = lines::put_bytes(page, d, b" ");
+    let f = lines::put_signed(page, e, greatest);
+    lines::put_bytes(page, f, b"\n")
 }
 
 // Of each sentence. Those of sums are numbers.
-fn put_bounds(page: &mut [u8; 4096], at: usize, area: &[u64], counters: Counters, sentences: u64) -> usize {
+fn put_bounds(
+    page: &mut [u8],
+    at: usize,
+    area: &[u64],
+    counters: Counters,
+    sentences: u64,
+) -> usize {
     let mut place = at;
     let mut k: u64 = 0;
     while k < sentences {
@@ -139,12 +106,12 @@ fn put_bounds(page: &mut [u8; 4096], at: usize, area: &[u64], counters: Counters
 }
 
 fn listing(area: &[u64], answer: Searched, sentences: u64) {
-    let mut page = [0u8; 4096];
+    let mut page = [0u8; 65536];
     let counters = answer.counters;
     let a = put_answer(&mut page, answer);
     let b = put_trail(&mut page, a, area, counters);
     let c = put_bounds(&mut page, b, area, counters, sentences);
-    flush(page, c);
+    write(&page, c);
 }
 
 // ---- the run

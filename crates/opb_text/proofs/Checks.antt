@@ -47,39 +47,31 @@ abbrev pub good : List Row
 good =
     -- document 01's input
     row (bytes "* #variable= 3 #constraint= 2\n+2 x1 +3 x2 -1 x3 >= 4 ;\n+1 x1 +1 x3 >= 1 ;\n")
-      (taken 3 (at-least (term (pos 2) 1 ∷ term (pos 3) 2 ∷ term (negℤ (pos 1)) 3 ∷ []) (pos 4) ∷ at-least (term (pos 1) 1 ∷ term (pos 1) 3 ∷ []) (pos 1) ∷ [])) ∷
+    (taken 3 (at-least (term (pos 2) 1 ∷ term (pos 3) 2 ∷ term (negℤ (pos 1)) 3 ∷ []) (pos 4) ∷ at-least (term (pos 1) 1 ∷ term (pos 1) 3 ∷ []) (pos 1) ∷ [])) ∷
     -- `=`, and no blank at `;`
-    row (three-one "1 x1 = 1;")
-      (taken 3 (equals (term (pos 1) 1 ∷ []) (pos 1) ∷ [])) ∷
+    row (three-one "1 x1 = 1;") (taken 3 (equals (term (pos 1) 1 ∷ []) (pos 1) ∷ [])) ∷
     -- the first line ends in CR LF
-    row (bytes "* #variable= 3 #constraint= 1\r\n1 x1 >= 1 ;\r\n")
-      (taken 3 (at-least (term (pos 1) 1 ∷ []) (pos 1) ∷ [])) ∷
+    row (bytes "* #variable= 3 #constraint= 1\r\n1 x1 >= 1 ;\r\n") (taken 3 (at-least (term (pos 1) 1 ∷ []) (pos 1) ∷ [])) ∷
     -- blanks of all four kinds between the parts, and a constraint over several lines
     row (three-one "  \t\r\n +1\t \n x1\r\n-2  x3\n>=\t1\n;\n\n \t")
-      (taken 3 (at-least (term (pos 1) 1 ∷ term (negℤ (pos 2)) 3 ∷ []) (pos 1) ∷ [])) ∷
+    (taken 3 (at-least (term (pos 1) 1 ∷ term (negℤ (pos 2)) 3 ∷ []) (pos 1) ∷ [])) ∷
     -- comments, the last up to the end
-    row (three-one "* one ; x9\r >= \n*\n1 x1 >= 1 ;\n* the end")
-      (taken 3 (at-least (term (pos 1) 1 ∷ []) (pos 1) ∷ [])) ∷
-    -- the right side may have a sign; a blank may stand before `*` inside a comment only
-    row (three-one "1 x1 >= -1 ;\n* *")
-      (taken 3 (at-least (term (pos 1) 1 ∷ []) (negℤ (pos 1)) ∷ [])) ∷
+    row (three-one "* one ; x9\r >= \n*\n1 x1 >= 1 ;\n* the end") (taken 3 (at-least (term (pos 1) 1 ∷ []) (pos 1) ∷ [])) ∷
+    -- the right side may have a sign, and a comment holds any byte
+    row (three-one "1 x1 >= -1 ;\n* *") (taken 3 (at-least (term (pos 1) 1 ∷ []) (negℤ (pos 1)) ∷ [])) ∷
     -- a plus on the right side, leading zeros in integers, the last variable
-    row (three-one "000 x3 >= +00 ;")
-      (taken 3 (at-least (term (pos 0) 3 ∷ []) (pos 0) ∷ [])) ∷
+    row (three-one "000 x3 >= +00 ;") (taken 3 (at-least (term (pos 0) 3 ∷ []) (pos 0) ∷ [])) ∷
     -- leading zeros in V and C
-    row (bytes "* #variable= 03 #constraint= 01\n1 x1 >= 1 ;")
-      (taken 3 (at-least (term (pos 1) 1 ∷ []) (pos 1) ∷ [])) ∷
+    row (bytes "* #variable= 03 #constraint= 01\n1 x1 >= 1 ;") (taken 3 (at-least (term (pos 1) 1 ∷ []) (pos 1) ∷ [])) ∷
     -- 18 digits
     row (three-one "123456789012345678 x1 >= -999999999999999999 ;")
-      (taken 3 (at-least (term (pos 123456789012345678) 1 ∷ []) (negℤ (pos 999999999999999999)) ∷ [])) ∷
+    (taken 3 (at-least (term (pos 123456789012345678) 1 ∷ []) (negℤ (pos 999999999999999999)) ∷ [])) ∷
     -- V + C 1,024, with no constraint and with one
-    row (bytes "* #variable= 1024 #constraint= 0\n")
-      (taken 1024 []) ∷
-    row (bytes "* #variable= 1023 #constraint= 1\n1 x1023 >= 1 ;")
-      (taken 1023 (at-least (term (pos 1) 1023 ∷ []) (pos 1) ∷ [])) ∷
+    row (bytes "* #variable= 1024 #constraint= 0\n") (taken 1024 []) ∷
+    row (bytes "* #variable= 1023 #constraint= 1\n1 x1023 >= 1 ;") (taken 1023 (at-least (term (pos 1) 1023 ∷ []) (pos 1) ∷ [])) ∷
     -- two constraints on a line; a variable twice
     row (bytes "* #variable= 1 #constraint= 2\n1 x1 1 x1 >= 1;1 x1 = 1;")
-      (taken 1 (at-least (term (pos 1) 1 ∷ term (pos 1) 1 ∷ []) (pos 1) ∷ equals (term (pos 1) 1 ∷ []) (pos 1) ∷ [])) ∷ []
+    (taken 1 (at-least (term (pos 1) 1 ∷ term (pos 1) 1 ∷ []) (pos 1) ∷ equals (term (pos 1) 1 ∷ []) (pos 1) ∷ [])) ∷ []
 
 pub all-taken : map (λ (r : Row). reading (r .text)) good ≡ map (λ (r : Row). r .says) good
 unfolding reading go place more long-fault v-fault c-fault variable-fault expect begin between relation-at-least relation-equal finish ends

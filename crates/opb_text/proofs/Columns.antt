@@ -9,7 +9,7 @@ use lib.Seq.{slice, take-at, drop-at, getD-at}
 use lib.IntN.{ℤ, pos}
 use Rattle.decide.specs.Below.{sum-first}
 use Rattle.meaning.specs.Meaning.{Entry}
-use Rattle.columns.specs.Columns.{Columns, Written, paired, part, written-at, written-from, all-written}
+use Rattle.columns.specs.Columns.{Written, paired, part, written-at, written-from, all-written}
 use Rattle.opb_text.specs.Text.{all-entries, columns-of}
 use Rattle.opb_text.proofs.Totals.{entries-append}
 
@@ -53,9 +53,9 @@ module _ (f : Entry → ℤ) (ys : List Written) (x : Written) (xs : List Writte
   part-is : part (columns-of (ys ++ x ∷ xs)) (length ys) (map f (all-entries (ys ++ x ∷ xs))) ≡ map f (x .entries)
   part-is =
       let from : sum-first (map count (ys ++ x ∷ xs)) (length ys) ≡ length (map f (all-entries ys)) =
-        entries-before ys (x ∷ xs) ∙ sym (length-map (all-entries ys) f) in
+      entries-before ys (x ∷ xs) ∙ sym (length-map (all-entries ys) f) in
       let size : getD (map count (ys ++ x ∷ xs)) (length ys) 0 ≡ length (map f (x .entries)) =
-        nth-is count ys x xs 0 ∙ sym (length-map (x .entries) f) in
+      nth-is count ys x xs 0 ∙ sym (length-map (x .entries) f) in
       ap₂ (λ (n m : ℕ). slice n (n + m) (map f (all-entries (ys ++ x ∷ xs)))) from size
       ∙ ap (slice (length (map f (all-entries ys))) (length (map f (all-entries ys)) + length (map f (x .entries)))) entries-split
       ∙ middle (map f (all-entries ys)) (map f (x .entries)) (map f (all-entries xs))

@@ -2,21 +2,19 @@
 -- text's reading. Each turn of a loop keeps it, and at a fault or at the end it is the answer.
 -- Assumes nothing.
 use mathlib.Core.Path.{_≡_, refl, sym, ap, subst, _∙_}
-use mathlib.Core.Bool.{Bool, true, false, cond}
 use mathlib.Core.List.{List, [], _∷_, _++_}
-use Prim.Native.Nat.{ℕ, zero, suc, _+_, _≤_, _<_}
+use Prim.Native.Nat.{ℕ, suc, _+_, _≤_, _<_}
 use native.Mathlib.Omega.{arith}
 use native.Mathlib.Numerals.{add-one}
 use lib.ListN.{length, getD, drop, drop-of-length-le}
 use lib.Seq.{drop-cons}
-use lib.Dec.{eqb, ltb}
 use borrow.Author.Tests.{lt-ltb, le-ltb}
 use Rattle.meaning.specs.Meaning.{Entry}
 use Rattle.opb_text.specs.declared.State.{State}
 use Rattle.opb_text.specs.declared.Next.{Next}
 use Rattle.opb_text.specs.declared.Next.the-variants as next
 use Rattle.opb_text.specs.Grammar.{step, ends, begins}
-use Rattle.opb_text.specs.Text.{Constraint, Reading, refused, term-of, constraint-of, turn, closing, go, reading}
+use Rattle.opb_text.specs.Text.{Constraint, refused, term-of, constraint-of, turn, closing, go, reading}
 use Rattle.opb_text.specs.States.{Sound}
 use Rattle.opb_text.proofs.Keeps.{Held, Kept, step-kept, begins-held}
 

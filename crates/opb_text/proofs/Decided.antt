@@ -14,10 +14,10 @@ use Rattle.opb_text.specs.declared.Next.{Next}
 use Rattle.opb_text.specs.declared.Next.the-variants as next
 use Rattle.opb_text.specs.declared.Read.{Read}
 use Rattle.opb_text.specs.Grammar.{step, ends, begins}
-use Rattle.opb_text.specs.Text.{Constraint, Reading, taken, refused, term-of, constraint-of, closing, go, reading, rows-from, all-entries, nothing-read, stored, read-of}
+use Rattle.opb_text.specs.Text.{Constraint, taken, refused, term-of, constraint-of, closing, reading, rows-from, all-entries, nothing-read, stored, read-of}
 use Rattle.opb_text.specs.States.{fixed, Sound, answer-at}
 use Rattle.opb_text.proofs.Totals.{all-rows, all-row-entries}
-use Rattle.opb_text.proofs.Keeps.{About, about, outside, Tracks, Held}
+use Rattle.opb_text.proofs.Keeps.{About, outside, Tracks, Held}
 use Rattle.opb_text.proofs.Limits.{may-end}
 use Rattle.opb_text.proofs.Course.{Reached, reached-first, sound, on-more, on-term, on-constraint, on-fault, at-end, too-long, not-too-long}
 
@@ -35,7 +35,7 @@ module _ (sentences entries : ℕ) (s : State) (cs : List Constraint) where
   stored-is n w =
       let e : length (rows-from (suc (s .sizes .variables)) cs) ≡ s .counts .sentences = omega (arith, all-rows (suc (s .sizes .variables)) cs) in
       let f : length (all-entries (rows-from (suc (s .sizes .variables)) cs)) ≡ s .counts .entries =
-        omega (arith, all-row-entries (suc (s .sizes .variables)) cs) in
+      omega (arith, all-row-entries (suc (s .sizes .variables)) cs) in
       rw (e, f)
 
   complete-is :

@@ -20,12 +20,12 @@ use Rattle.opb_text.specs.declared.Next.{Next}
 use Rattle.opb_text.specs.declared.Next.the-variants as next
 use Rattle.opb_text.specs.declared.Read.{Read}
 use Rattle.opb_text.specs.Grammar.{bytes-limit, step, ends, begins}
-use Rattle.opb_text.specs.Text.{Constraint, Reading, taken, refused, signed-of, term-of, constraint-of, closing, go, reading, rows-from, all-entries, columns-of, nothing-read, stored, read-of, over-all, result-of, sentence-room, entry-room, Reads}
+use Rattle.opb_text.specs.Text.{Constraint, Reading, taken, refused, signed-of, term-of, constraint-of, closing, go, reading, rows-from, all-entries, columns-of, nothing-read, read-of, over-all, result-of, sentence-room, entry-room, Reads}
 use Rattle.opb_text.specs.States.{fixed, Sound, Decided, with-rows, Room}
 use Rattle.opb_text.proofs.Totals.{again, sentences-of, entries-of, constraints-few, all-rows, all-row-entries}
-use Rattle.opb_text.proofs.Keeps.{About, about, outside, inside, behind-relation, Tracks, Held, Kept}
+use Rattle.opb_text.proofs.Keeps.{About, outside, Tracks}
 use Rattle.opb_text.proofs.Limits.{Taken, Leads, may-end, go-leads, limits, numbered}
-use Rattle.opb_text.proofs.Course.{Reached, reached-first, sound, goes-to, keeps, on-more, on-term, on-constraint, on-fault, at-end}
+use Rattle.opb_text.proofs.Course.{Reached, reached-first, sound, keeps, on-more, on-term, on-constraint, on-fault, at-end}
 use Rattle.opb_text.proofs.Fronts.{same-sizes, so-far, none-so-far, all-so-far, rows-long, constraint-put, term-put}
 
 -- ---- what the first pass told
@@ -108,9 +108,17 @@ module _ (old : Columns) (n : ℕ) where
       let b = min (length (old .bounds)) (length (old .counts)) in
       let c = min (length (old .sides)) b in
       let d = min (length (old .kinds)) c in
-      omega
-      (arith, min-le-left (length (old .heads)) d, min-le-right (length (old .heads)) d, min-le-left (length (old .kinds)) c, min-le-right (length (old .kinds)) c,
-      min-le-left (length (old .sides)) b, min-le-right (length (old .sides)) b, min-le-left a (length (old .counts)), min-le-right a (length (old .counts)))
+      omega (
+        arith,
+        min-le-left (length (old .heads)) d,
+        min-le-right (length (old .heads)) d,
+        min-le-left (length (old .kinds)) c,
+        min-le-right (length (old .kinds)) c,
+        min-le-left (length (old .sides)) b,
+        min-le-right (length (old .sides)) b,
+        min-le-left a (length (old .counts)),
+        min-le-right a (length (old .counts)),
+      )
 
   both-long : n ≤ entry-room old → (n ≤ length (old .weights)) × (n ≤ length (old .literals))
   both-long h =
@@ -171,9 +179,15 @@ module _ {text : List ℕ} {old : Columns} {f : ℕ} {h k d n : List ℕ} {b v l
 
   pub few : head ≤ 2048
   few =
-      omega
-      (arith, so .next-head, so .told .first-head, constraints-few (so .cs), so .reached .held .sentences, so .reached .held .sentences-fit,
-      limits text (so .told .variables) (so .told .all) (so .told .is-read) .atoms)
+      omega (
+        arith,
+        so .next-head,
+        so .told .first-head,
+        constraints-few (so .cs),
+        so .reached .held .sentences,
+        so .reached .held .sentences-fit,
+        limits text (so .told .variables) (so .told .all) (so .told .is-read) .atoms,
+      )
 
   leads : (t : State) (j : ℕ) (ds : List Constraint) (fs : List Entry) → Reached text t j ds fs → Taken t (so .told .variables) (so .told .all)
   leads t j ds fs re = subst (Leads t) (sym (re .goes) ∙ goes-to-all) (go-leads (drop j text) t ds fs (re .held))
@@ -217,7 +231,7 @@ module _ {text : List ℕ} {old : Columns} {f : ℕ} {h k d n : List ℕ} {b v l
         let kept = keeps (so .reached) p q (next.Term t) m in
         let all = leads t (i + 1) (so .cs) (so .es ++ (term-of s ∷ [])) (on-term (so .reached) p q t m) in
         let more : s .counts .entries < t .counts .entries =
-          omega (arith, kept .0 .entries, kept .2 .entries, length-append (so .es) (term-of s ∷ [])) in
+        omega (arith, kept .0 .entries, kept .2 .entries, length-append (so .es) (term-of s ∷ [])) in
         let room = both-long old (t .counts .entries) (omega (arith, all .entries, so .told .entries)) in
         omega (arith, room)
 
@@ -238,11 +252,11 @@ module _ {text : List ℕ} {old : Columns} {f : ℕ} {h k d n : List ℕ} {b v l
           reached = on-term (so .reached) p q t m;
           next-head = so .next-head;
           filled =
-            term-put f s (so .cs) (so .es) (keeps (so .reached) p q (next.Term t) m .2) old (so .filled) (left .0) (left .1) ev el;
+              term-put f s (so .cs) (so .es) (keeps (so .reached) p q (next.Term t) m .2) old (so .filled) (left .0) (left .1) ev el;
           long =
-            same-sizes same-heads same-kinds same-sides same-bounds same-counts
-            (ap length ev ∙ length-set v (s .counts .entries) (signed-of (s .weight)) ∙ same-weights)
-            (ap length el ∙ length-set l (s .counts .entries) (pos (s .number .size)) ∙ same-literals);
+              same-sizes same-heads same-kinds same-sides same-bounds same-counts
+              (ap length ev ∙ length-set v (s .counts .entries) (signed-of (s .weight)) ∙ same-weights)
+              (ap length el ∙ length-set l (s .counts .entries) (pos (s .number .size)) ∙ same-literals);
         }
 
     rows-left : EachLong old (s .counts .sentences) × (s .counts .entries ≤ length (old .weights)) × (s .counts .entries ≤ length (old .literals))
@@ -259,8 +273,8 @@ module _ {text : List ℕ} {old : Columns} {f : ℕ} {h k d n : List ℕ} {b v l
         record {
           rows = omega (arith, w .sentences);
           copies =
-            subst (λ (e : ℕ). cond (s .equal) (s .counts .terms + s .counts .terms) 0 ≤ e)
-            (sym (w .entries ∙ ap (λ (t : ℕ). entries-of (so .cs) + t + again (s .equal) t) (sym (w .open-terms)))) copies;
+              subst (λ (e : ℕ). cond (s .equal) (s .counts .terms + s .counts .terms) 0 ≤ e)
+              (sym (w .entries ∙ ap (λ (t : ℕ). entries-of (so .cs) + t + again (s .equal) t) (sym (w .open-terms)))) copies;
           heads = omega (arith, left .0 .heads, same-heads);
           kinds = omega (arith, left .0 .kinds, same-kinds);
           sides = omega (arith, left .0 .sides, same-sides);
@@ -285,10 +299,10 @@ module _ {text : List ℕ} {old : Columns} {f : ℕ} {h k d n : List ℕ} {b v l
           reached = on-constraint (so .reached) p q t m;
           next-head = omega (arith, so .next-head, length-append (so .cs) (c ∷ []));
           filled =
-            e
-            ∙ ap (with-rows s head) (so .filled)
-            ∙ ap (λ (j : ℕ). with-rows s j (over-all (so-far f (so .cs) (so .es)) old)) (so .next-head)
-            ∙ constraint-put f s (so .cs) (so .es) w old (left .0 .heads) (left .0 .kinds) (left .0 .sides) (left .0 .bounds) (left .0 .counts)
+              e
+              ∙ ap (with-rows s head) (so .filled)
+              ∙ ap (λ (j : ℕ). with-rows s j (over-all (so-far f (so .cs) (so .es)) old)) (so .next-head)
+              ∙ constraint-put f s (so .cs) (so .es) w old (left .0 .heads) (left .0 .kinds) (left .0 .sides) (left .0 .bounds) (left .0 .counts)
               (left .1) (left .2);
           long = ap sizes e ∙ rows-long s head (columns h k d b n v l) ∙ so .long;
         }
@@ -304,7 +318,7 @@ module _ {text : List ℕ} {old : Columns} {f : ℕ} {h k d n : List ℕ} {b v l
   end p =
       let done = closed s (so .cs) (so .told .all) (so .told .variables) (ends (s .phase) s) (sym (at-end (so .reached) p) ∙ goes-to-all) in
       let w : Tracks outside (fixed (s .phase)) s (so .cs) (length (so .es)) =
-        subst (λ (a : About). Tracks a (fixed (s .phase)) s (so .cs) (length (so .es))) (may-end (s .phase) s (done .0)) (so .reached .held) in
+      subst (λ (a : About). Tracks a (fixed (s .phase)) s (so .cs) (length (so .es))) (may-end (s .phase) s (done .0)) (so .reached .held) in
       so .filled
       ∙ ap (λ (fs : List Entry). over-all (so-far f (so .cs) fs) old) (empty (so .es) (w .most))
       ∙ ap (λ (ds : List Constraint). over-all (so-far f ds []) old) (done .1)

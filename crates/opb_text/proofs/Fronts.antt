@@ -1,11 +1,11 @@
 -- The columns of the constraints and terms read so far: a term, and a constraint's rows, go behind them.
 -- Assumes nothing.
-use mathlib.Core.Path.{_≡_, refl, sym, ap, _∙_, subst}
+use mathlib.Core.Path.{_≡_, refl, sym, ap, _∙_}
 use mathlib.Core.Bool.{Bool, true, false, cond}
 use mathlib.Core.List.{List, [], _∷_, _++_, map, map-append, append-nil, append-assoc}
-use Prim.Native.Nat.{ℕ, suc, _+_, _-_, _≤_, _<_}
+use Prim.Native.Nat.{ℕ, _+_, _-_, _≤_, _<_}
 use native.Mathlib.Omega.{arith}
-use lib.ListN.{length, set, take, drop, length-map, length-append}
+use lib.ListN.{length, set, drop, length-map, length-append}
 use lib.Seq.{sets, length-sets, slice, take-at, drop-at}
 use lib.IntN.{ℤ, pos}
 use Rattle.meaning.specs.Meaning.{Entry}
@@ -15,7 +15,7 @@ use Rattle.columns.specs.declared.Sizes.{Sizes}
 use Rattle.opb_text.specs.declared.State.{State}
 use Rattle.opb_text.specs.Text.{Constraint, signed-of, term-of, constraint-of, sum-row, rows-of, rows-from, all-entries, columns-of, over, over-all}
 use Rattle.opb_text.specs.States.{both, first-row, copied, with-rows}
-use Rattle.opb_text.proofs.Totals.{made, again, sentences-of, entries-of, all-rows, all-row-entries, entries-append, rows-length, rows-more}
+use Rattle.opb_text.proofs.Totals.{again, entries-of, all-rows, all-row-entries, entries-append, rows-length, rows-more}
 use Rattle.opb_text.proofs.Keeps.{Tracks, inside, behind-relation}
 use Rattle.opb_text.proofs.Stores.{over-sets}
 
@@ -103,7 +103,7 @@ module _ (first : ℕ) (s : State) (cs : List Constraint) (es : List Entry) (w :
   rows-put f old h x y q =
       ap (sets (over (map f rows) old) (first-row s)) q
       ∙ front f rows (rows-of (first + length cs) c) old (first-row s) first-is
-        (omega (arith, h, rows-length (first + length cs) c (s .equal) refl))
+      (omega (arith, h, rows-length (first + length cs) c (s .equal) refl))
       ∙ ap (λ (xs : List Written). over (map f xs) old) (sym (rows-more first cs c))
 
   abbrev entries : List Entry

@@ -1,14 +1,14 @@
 -- What holds of every state that a text leads to, with the constraints and the terms read so far: each step keeps it.
 -- Assumes nothing.
-use mathlib.Core.Path.{_≡_, refl, sym, subst}
+use mathlib.Core.Path.{_≡_, refl, sym}
 use mathlib.Core.Bool.{Bool, true, false, cond}
 use mathlib.Core.List.{List, [], _∷_, _++_}
 use Prim.Native.Nat.{ℕ, suc, _+_, _*_, _-_, _≤_, _<_}
 use native.Mathlib.Omega.{arith}
 use native.Mathlib.Nat.{min-le-right}
-use lib.Dec.{ltb, leb, eqb}
+use lib.Dec.{leb, eqb}
 use lib.ListN.{length, getD, length-append}
-use borrow.Author.Tests.{ltb-false, leb-true, eqb-true, eqb-false}
+use borrow.Author.Tests.{leb-true, eqb-true, eqb-false}
 use Rattle.meaning.specs.Meaning.{Entry}
 use Rattle.opb_text.specs.declared.Phase.{Phase}
 use Rattle.opb_text.specs.declared.Phase.the-variants.{Opening, BeforeV, InV, Middle, BeforeC, InC, AfterReturn, LineStart, Between, Comment, WeightSign, InWeight, BeforeX, BeforeVariable, InVariable, AfterTerm, AfterGreater, AfterRelation, BeforeBound, BoundSign, InBound, AfterBound}
@@ -16,7 +16,7 @@ use Rattle.opb_text.specs.declared.Number.{Number}
 use Rattle.opb_text.specs.declared.State.{State}
 use Rattle.opb_text.specs.declared.Next.{Next}
 use Rattle.opb_text.specs.declared.Next.the-variants as next
-use Rattle.opb_text.specs.Grammar.{at, matching, numbering, weighing, sizing, counting, signed, more, long-fault, v-fault, c-fault, variable-fault, behind, opening, middle, expect, digits, begin, between, term, relation-at-least, relation-equal, finish, place, step, begins}
+use Rattle.opb_text.specs.Grammar.{at, numbering, sizing, signed, more, long-fault, v-fault, c-fault, variable-fault, behind, opening, middle, expect, digits, begin, between, term, relation-at-least, relation-equal, finish, place, step, begins}
 use Rattle.opb_text.specs.Bytes.{class-of}
 use Rattle.opb_text.specs.Text.{Constraint, term-of, constraint-of}
 use Rattle.opb_text.specs.States.{fixed}
@@ -191,9 +191,9 @@ module _ (u : State) (cs : List Constraint) (es : List Entry) where
     equal-kept l w =
         by Fine (leb (s .counts .sentences + 2) 256)
         (λ t.
-          by Fine (leb (s .counts .entries + s .counts .terms) 4096)
-          (λ v. omega (arith, leb-true (s .counts .sentences + 2) 256 t, leb-true (s .counts .entries + s .counts .terms) 4096 v))
-          (λ v. full))
+        by Fine (leb (s .counts .entries + s .counts .terms) 4096)
+        (λ v. omega (arith, leb-true (s .counts .sentences + 2) 256 t, leb-true (s .counts .entries + s .counts .terms) 4096 v))
+        (λ v. full))
         (λ t. full)
 
   finish-kept : (k : ℕ) → Tracks behind-relation 14 u cs (length es) → Fine (finish u k)

@@ -2,12 +2,12 @@
 -- Assumes nothing.
 use mathlib.Core.Path.{_≡_, refl, sym, ap, _∙_, subst}
 use mathlib.Core.Bool.{Bool, true, false, cond}
-use mathlib.Core.List.{List, [], _∷_, _++_, append-assoc}
+use mathlib.Core.List.{List, _++_}
 use Prim.Native.Nat.{ℕ, _+_, _-_, _≤_, _<_}
 use native.Mathlib.Omega.{arith}
 use native.Mathlib.Numerals.{add-one}
 use lib.ListN.{length, getD, set, take, drop, length-append, length-drop, length-set, List·getD-append}
-use lib.Seq.{length-take-le, take-all, take-at, drop-at, drop-append-add, drop-drop, getD-drop, sets, sets-eq, paste, paste-zero, paste-suc, length-paste, slice, length-slice}
+use lib.Seq.{length-take-le, take-all, take-at, drop-append-add, drop-drop, getD-drop, sets, sets-eq, paste, paste-zero, paste-suc, slice, length-slice}
 use lib.IntN.{ℤ, pos}
 use mir.Syntax.{w64}
 use mir.Val.{SFits, toZ, ofZ}
@@ -53,12 +53,12 @@ module _ (d : List ℤ) (from count : ℕ) where
         room = r .room;
         upto = omega arith;
         is =
-          e
-          ∙ ap (set column (from + count + i)) (back (getD column (from + i) (pos 0)) f)
-          ∙ ap (λ (x : List ℤ). set x (from + count + i) (getD x (from + i) (pos 0))) (r .is)
-          ∙ ap (set (there i) (from + count + i)) (reads i h l)
-          ∙ paste-suc d (from + count) s i (pos 0) (omega (arith, r .room)) (omega (arith, part-length l))
-          ∙ ap there (sym (add-one i));
+            e
+            ∙ ap (set column (from + count + i)) (back (getD column (from + i) (pos 0)) f)
+            ∙ ap (λ (x : List ℤ). set x (from + count + i) (getD x (from + i) (pos 0))) (r .is)
+            ∙ ap (set (there i) (from + count + i)) (reads i h l)
+            ∙ paste-suc d (from + count) s i (pos 0) (omega (arith, r .room)) (omega (arith, part-length l))
+            ∙ ap there (sym (add-one i));
         long = ap length e ∙ length-set column (from + count + i) (toZ w64 (ofZ w64 (getD column (from + i) (pos 0)))) ∙ r .long;
       }
 
@@ -113,7 +113,7 @@ module _ (s : State) (l : List ℤ) where
       s .equal ≡ true → s .counts .terms + s .counts .terms ≤ s .counts .entries → (new : List ℤ) →
       new
       ≡ sets l (s .counts .entries - s .counts .terms - s .counts .terms + s .counts .terms)
-        (slice (s .counts .entries - s .counts .terms - s .counts .terms) (s .counts .entries - s .counts .terms - s .counts .terms + s .counts .terms) l) →
+      (slice (s .counts .entries - s .counts .terms - s .counts .terms) (s .counts .entries - s .counts .terms - s .counts .terms + s .counts .terms) l) →
       new ≡ copied s l
   is-copied e h new q =
       let n : s .counts .entries - s .counts .terms - s .counts .terms + s .counts .terms ≡ s .counts .entries - s .counts .terms = omega arith in

@@ -5,10 +5,7 @@ use mathlib.Core.Bool.{Bool, true, false, cond}
 use mathlib.Core.List.{List, [], _∷_, _++_, append-nil, append-assoc}
 use Prim.Native.Nat.{ℕ, suc, _+_, _≤_}
 use native.Mathlib.Omega.{arith}
-use native.Mathlib.Numerals.{add-one}
 use lib.ListN.{length, length-append}
-use lib.IntN.{ℤ}
-use Rattle.meaning.specs.Meaning.{Entry}
 use Rattle.columns.specs.Columns.{Written}
 use Rattle.opb_text.specs.Text.{Constraint, rows-of, rows-from, all-entries}
 

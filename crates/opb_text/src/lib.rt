@@ -1,16 +1,15 @@
 // OPB text into load's columns, as document 01 lays it down: a byte automaton that first decides the whole text and then fills.
 ghost use mathlib.Core.Path.{_≡_};
 ghost use mathlib.Core.Bool.{cond};
-ghost use mathlib.Core.List.{[], _∷_, map};
 ghost use Prim.Native.Nat.{_+_, _*_, _-_, _<_, _≤_, min};
 ghost use lib.ListN.{length, set};
 ghost use lib.Seq.{sets, slice};
 ghost use lib.IntN.{pos};
-ghost use lib.Dec.{eqb, leb};
+ghost use lib.Dec.{leb};
 ghost use Rattle.columns.specs.Columns.{columns};
 ghost use Rattle.opb_text.specs.Bytes.{class-of};
 ghost use Rattle.opb_text.specs.Grammar as grammar;
-ghost use Rattle.opb_text.specs.Text.{reading, read-of, result-of, signed-of, nothing-read, Reads, sentence-room, entry-room};
+ghost use Rattle.opb_text.specs.Text.{reading, read-of, result-of, signed-of, nothing-read, Reads};
 ghost use Rattle.opb_text.specs.States.{Sound, answer-at, Decided, both, first-row, copied, with-rows, Room};
 
 // What has been read, and so what may come next.
@@ -94,7 +93,6 @@ pub struct Read {
     pub entries: u64,
 }
 
-
 // ---- bytes
 
 const BLANK: u8 = 0;
@@ -116,22 +114,262 @@ const EQUAL: u8 = 7;
 const SEMICOLON: u8 = 8;
 
 const CLASSES: [u8; 256] = [
-    9, 9, 9, 9, 9, 9, 9, 9, 9, 0, 0, 9, 9, 0, 9, 9,
-    9, 9, 9, 9, 9, 9, 9, 9, 9, 9, 9, 9, 9, 9, 9, 9,
-    0, 9, 9, 9, 9, 9, 9, 9, 9, 9, 4, 2, 9, 3, 9, 9,
-    1, 1, 1, 1, 1, 1, 1, 1, 1, 1, 9, 8, 9, 7, 6, 9,
-    9, 9, 9, 9, 9, 9, 9, 9, 9, 9, 9, 9, 9, 9, 9, 9,
-    9, 9, 9, 9, 9, 9, 9, 9, 9, 9, 9, 9, 9, 9, 9, 9,
-    9, 9, 9, 9, 9, 9, 9, 9, 9, 9, 9, 9, 9, 9, 9, 9,
-    9, 9, 9, 9, 9, 9, 9, 9, 5, 9, 9, 9, 9, 9, 9, 9,
-    9, 9, 9, 9, 9, 9, 9, 9, 9, 9, 9, 9, 9, 9, 9, 9,
-    9, 9, 9, 9, 9, 9, 9, 9, 9, 9, 9, 9, 9, 9, 9, 9,
-    9, 9, 9, 9, 9, 9, 9, 9, 9, 9, 9, 9, 9, 9, 9, 9,
-    9, 9, 9, 9, 9, 9, 9, 9, 9, 9, 9, 9, 9, 9, 9, 9,
-    9, 9, 9, 9, 9, 9, 9, 9, 9, 9, 9, 9, 9, 9, 9, 9,
-    9, 9, 9, 9, 9, 9, 9, 9, 9, 9, 9, 9, 9, 9, 9, 9,
-    9, 9, 9, 9, 9, 9, 9, 9, 9, 9, 9, 9, 9, 9, 9, 9,
-    9, 9, 9, 9, 9, 9, 9, 9, 9, 9, 9, 9, 9, 9, 9, 9,
+    9,
+    9,
+    9,
+    9,
+    9,
+    9,
+    9,
+    9,
+    9,
+    0,
+    0,
+    9,
+    9,
+    0,
+    9,
+    9,
+    9,
+    9,
+    9,
+    9,
+    9,
+    9,
+    9,
+    9,
+    9,
+    9,
+    9,
+    9,
+    9,
+    9,
+    9,
+    9,
+    0,
+    9,
+    9,
+    9,
+    9,
+    9,
+    9,
+    9,
+    9,
+    9,
+    4,
+    2,
+    9,
+    3,
+    9,
+    9,
+    1,
+    1,
+    1,
+    1,
+    1,
+    1,
+    1,
+    1,
+    1,
+    1,
+    9,
+    8,
+    9,
+    7,
+    6,
+    9,
+    9,
+    9,
+    9,
+    9,
+    9,
+    9,
+    9,
+    9,
+    9,
+    9,
+    9,
+    9,
+    9,
+    9,
+    9,
+    9,
+    9,
+    9,
+    9,
+    9,
+    9,
+    9,
+    9,
+    9,
+    9,
+    9,
+    9,
+    9,
+    9,
+    9,
+    9,
+    9,
+    9,
+    9,
+    9,
+    9,
+    9,
+    9,
+    9,
+    9,
+    9,
+    9,
+    9,
+    9,
+    9,
+    9,
+    9,
+    9,
+    9,
+    9,
+    9,
+    9,
+    9,
+    9,
+    9,
+    9,
+    5,
+    9,
+    9,
+    9,
+    9,
+    9,
+    9,
+    9,
+    9,
+    9,
+    9,
+    9,
+    9,
+    9,
+    9,
+    9,
+    9,
+    9,
+    9,
+    9,
+    9,
+    9,
+    9,
+    9,
+    9,
+    9,
+    9,
+    9,
+    9,
+    9,
+    9,
+    9,
+    9,
+    9,
+    9,
+    9,
+    9,
+    9,
+    9,
+    9,
+    9,
+    9,
+    9,
+    9,
+    9,
+    9,
+    9,
+    9,
+    9,
+    9,
+    9,
+    9,
+    9,
+    9,
+    9,
+    9,
+    9,
+    9,
+    9,
+    9,
+    9,
+    9,
+    9,
+    9,
+    9,
+    9,
+    9,
+    9,
+    9,
+    9,
+    9,
+    9,
+    9,
+    9,
+    9,
+    9,
+    9,
+    9,
+    9,
+    9,
+    9,
+    9,
+    9,
+    9,
+    9,
+    9,
+    9,
+    9,
+    9,
+    9,
+    9,
+    9,
+    9,
+    9,
+    9,
+    9,
+    9,
+    9,
+    9,
+    9,
+    9,
+    9,
+    9,
+    9,
+    9,
+    9,
+    9,
+    9,
+    9,
+    9,
+    9,
+    9,
+    9,
+    9,
+    9,
+    9,
+    9,
+    9,
+    9,
+    9,
+    9,
+    9,
+    9,
+    9,
+    9,
+    9,
+    9,
+    9,
+    9,
+    9,
+    9,
+    9,
+    9,
+    9,
+    9,
+    9,
 ];
 
 // The class of a byte, as the table has it; 9 is a byte of no other class.
@@ -366,6 +604,27 @@ fn variable_fault(s: State) -> u64
     24
 }
 
+// ---- answers of a step
+
+fn moved(s: State, p: Phase) -> Next
+    ensures { λ r. ⌜ r ≡ Next.More (grammar.at s p) ⌝ }
+{
+    Next::More(at(s, p))
+}
+
+fn numbered(s: State, p: Phase, number: Number) -> Next
+    ensures { λ r. ⌜ r ≡ Next.More (grammar.numbering s p number) ⌝ }
+{
+    Next::More(numbering(s, p, number))
+}
+
+// A byte that can't stand there.
+fn wrong() -> Next
+    ensures { λ r. ⌜ r ≡ Next.Fault 20 ⌝ }
+{
+    Next::Fault(20)
+}
+
 // ---- pieces of the text
 
 // The next byte of a fixed text, in phase p; a number follows in phase q.
@@ -376,10 +635,10 @@ fn expect(text: &[u8], p: Phase, q: Phase, s: State, b: u8) -> Next
     let matched = s.matched;
     let i = matched as usize;
     if text[i] != b {
-        return Next::Fault(20);
+        return wrong();
     }
     if i + 1 == text.len() {
-        return Next::More(numbering(s, q, sign(false)));
+        return numbered(s, q, sign(false));
     }
     Next::More(matching(s, p, matched + 1))
 }
@@ -404,9 +663,9 @@ fn digits(s: State, p: Phase, b: u8, k: u8) -> Next
 {
     let n = s.number;
     if k == DIGIT {
-        return Next::More(numbering(s, p, more(n, b)));
+        return numbered(s, p, more(n, b));
     }
-    Next::Fault(20)
+    wrong()
 }
 
 // A number that may have a sign: phase p behind the sign, q behind a digit.
@@ -414,15 +673,15 @@ fn begin(p: Phase, q: Phase, s: State, b: u8, k: u8) -> Next
     ensures { λ r. ⌜ r ≡ grammar.begin p q s b k ⌝ }
 {
     if k == DIGIT {
-        return Next::More(numbering(s, q, more(sign(false), b)));
+        return numbered(s, q, more(sign(false), b));
     }
     if k == PLUS {
-        return Next::More(numbering(s, p, sign(false)));
+        return numbered(s, p, sign(false));
     }
     if k == MINUS {
-        return Next::More(numbering(s, p, sign(true)));
+        return numbered(s, p, sign(true));
     }
-    Next::Fault(20)
+    wrong()
 }
 
 // Outside constraints: blanks, or a constraint's first term.
@@ -430,10 +689,10 @@ fn between(s: State, b: u8, k: u8) -> Next
     ensures { λ r. ⌜ r ≡ grammar.between s b k ⌝ }
 {
     if b == b'\n' {
-        return Next::More(at(s, Phase::LineStart));
+        return moved(s, Phase::LineStart);
     }
     if k == BLANK {
-        return Next::More(at(s, Phase::Between));
+        return moved(s, Phase::Between);
     }
     begin(Phase::WeightSign, Phase::InWeight, s, b, k)
 }
@@ -492,10 +751,10 @@ fn finish(s: State, k: u8) -> Next
     ensures { λ r. ⌜ r ≡ grammar.finish s k ⌝ }
 {
     if k == BLANK {
-        return Next::More(at(s, Phase::AfterBound));
+        return moved(s, Phase::AfterBound);
     }
     if k != SEMICOLON {
-        return Next::Fault(20);
+        return wrong();
     }
     let c = s.counts;
     let counts = Counts {
@@ -548,23 +807,23 @@ fn in_c(s: State, b: u8, k: u8) -> Next
     if b == b'\r' {
         return Next::More(sizing(s, Phase::AfterReturn, sizes));
     }
-    Next::Fault(20)
+    wrong()
 }
 
 fn after_return(s: State, b: u8, k: u8) -> Next
     ensures { λ r. ⌜ r ≡ grammar.place Phase.AfterReturn s b k ⌝ }
 {
     if b == b'\n' {
-        return Next::More(at(s, Phase::LineStart));
+        return moved(s, Phase::LineStart);
     }
-    Next::Fault(20)
+    wrong()
 }
 
 fn line_start(s: State, b: u8, k: u8) -> Next
     ensures { λ r. ⌜ r ≡ grammar.place Phase.LineStart s b k ⌝ }
 {
     if k == STAR {
-        return Next::More(at(s, Phase::Comment));
+        return moved(s, Phase::Comment);
     }
     between(s, b, k)
 }
@@ -573,9 +832,9 @@ fn comment(s: State, b: u8, k: u8) -> Next
     ensures { λ r. ⌜ r ≡ grammar.place Phase.Comment s b k ⌝ }
 {
     if b == b'\n' {
-        return Next::More(at(s, Phase::LineStart));
+        return moved(s, Phase::LineStart);
     }
-    Next::More(at(s, Phase::Comment))
+    moved(s, Phase::Comment)
 }
 
 fn in_weight(s: State, b: u8, k: u8) -> Next
@@ -591,26 +850,26 @@ fn in_weight(s: State, b: u8, k: u8) -> Next
     if k == BLANK {
         return Next::More(weighing(s, Phase::BeforeX));
     }
-    Next::Fault(20)
+    wrong()
 }
 
 fn before_x(s: State, b: u8, k: u8) -> Next
     ensures { λ r. ⌜ r ≡ grammar.place Phase.BeforeX s b k ⌝ }
 {
     if k == BLANK {
-        return Next::More(at(s, Phase::BeforeX));
+        return moved(s, Phase::BeforeX);
     }
     if k == EX {
-        return Next::More(numbering(s, Phase::BeforeVariable, sign(false)));
+        return numbered(s, Phase::BeforeVariable, sign(false));
     }
-    Next::Fault(20)
+    wrong()
 }
 
 fn before_variable(s: State, b: u8, k: u8) -> Next
     ensures { λ r. ⌜ r ≡ grammar.place Phase.BeforeVariable s b k ⌝ }
 {
     if b == b'0' {
-        return Next::Fault(20);
+        return wrong();
     }
     digits(s, Phase::InVariable, b, k)
 }
@@ -629,17 +888,17 @@ fn in_variable(s: State, b: u8, k: u8) -> Next
     if k == BLANK {
         return Next::Term(term(s));
     }
-    Next::Fault(20)
+    wrong()
 }
 
 fn after_term(s: State, b: u8, k: u8) -> Next
     ensures { λ r. ⌜ r ≡ grammar.place Phase.AfterTerm s b k ⌝ }
 {
     if k == BLANK {
-        return Next::More(at(s, Phase::AfterTerm));
+        return moved(s, Phase::AfterTerm);
     }
     if k == GREATER {
-        return Next::More(at(s, Phase::AfterGreater));
+        return moved(s, Phase::AfterGreater);
     }
     if k == EQUAL {
         return relation_equal(s);
@@ -653,23 +912,23 @@ fn after_greater(s: State, b: u8, k: u8) -> Next
     if k == EQUAL {
         return relation_at_least(s);
     }
-    Next::Fault(20)
+    wrong()
 }
 
 fn after_relation(s: State, b: u8, k: u8) -> Next
     ensures { λ r. ⌜ r ≡ grammar.place Phase.AfterRelation s b k ⌝ }
 {
     if k == BLANK {
-        return Next::More(at(s, Phase::BeforeBound));
+        return moved(s, Phase::BeforeBound);
     }
-    Next::Fault(20)
+    wrong()
 }
 
 fn before_bound(s: State, b: u8, k: u8) -> Next
     ensures { λ r. ⌜ r ≡ grammar.place Phase.BeforeBound s b k ⌝ }
 {
     if k == BLANK {
-        return Next::More(at(s, Phase::BeforeBound));
+        return moved(s, Phase::BeforeBound);
     }
     begin(Phase::BoundSign, Phase::InBound, s, b, k)
 }
@@ -1054,7 +1313,17 @@ pub fn read_text(
     let entries = least(weights.len() as u64, literals.len() as u64);
     let r = decide(text, sentences, entries);
     if r.code == 0 {
-        fill(text, r, heads, kinds, sides, bounds, counts, weights, literals);
+        fill(
+            text,
+            r,
+            heads,
+            kinds,
+            sides,
+            bounds,
+            counts,
+            weights,
+            literals,
+        );
     }
     r
 }

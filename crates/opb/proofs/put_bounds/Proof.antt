@@ -1,22 +1,24 @@
--- The loop writes the bounds of the sentences that it passes; what is left of them falls.
--- Assumes nothing.
-use Prim.Native.Nat.{_-_}
-use native.Mathlib.Omega.{arith}
+-- The loop passes the sentences; the page keeps its length. Assumes nothing.
 use borrow.Author.Needs.{needs}
+use mathlib.Core.Path.{_≡_}
+use Prim.Native.Nat.{_≤_, _-_}
+use lib.ListN.{length}
 use Rattle.opb.proofs.put_bounds.Statement.{statement}
 use Rattle.opb.proofs.put_bounds.Tie as tie
+use Rattle.dalelead.proofs.bounds.Reads as bounds-reads
+use Rattle.opb.proofs.put_bound.Reads as put-bound-reads
 
 abbrev Inv-loop : tie.InvT-loop
-Inv-loop page₀ at area counters sentences place₀ k₀ page place k = Unit
+Inv-loop page₀ at area counters sentences place₀ k₀ page place k = (k ≤ sentences) × (length page ≡ length page₀)
 
 abbrev μ-loop : tie.MeasureT-loop
 μ-loop page₀ at area counters sentences place₀ k₀ page place k = sentences - k
 
 loop-holds : tie.Need-loop-holds Inv-loop μ-loop
-loop-holds c = tt
+loop-holds c = search needs
 
 add-k : tie.Need-add-k Inv-loop μ-loop
-add-k c = omega arith
+add-k c = search needs
 
 bounds-requires : tie.Need-bounds-requires Inv-loop μ-loop
 bounds-requires c κs = search needs
@@ -25,10 +27,13 @@ put-bound-requires : tie.Need-put-bound-requires Inv-loop μ-loop
 put-bound-requires c κs = search needs
 
 loop-less : tie.Need-loop-less Inv-loop μ-loop
-loop-less c = omega arith
+loop-less c = search needs
 
 loop-again : tie.Need-loop-again Inv-loop μ-loop
-loop-again c = tt
+loop-again c = search needs
+
+same-length : tie.Need-same-length Inv-loop μ-loop
+same-length c = search needs
 
 returns : tie.Need-returns Inv-loop μ-loop
 returns c = search needs
@@ -45,4 +50,5 @@ put-bounds-spec =
     put-bound-requires
     loop-less
     loop-again
+    same-length
     returns)

@@ -1,19 +1,20 @@
--- The loop writes the rows that it passes; what is left of them falls.
--- Assumes nothing.
-use Prim.Native.Nat.{_-_}
-use native.Mathlib.Omega.{arith}
+-- The loop passes the rows; the page keeps its length. Assumes nothing.
 use borrow.Author.Needs.{needs}
+use mathlib.Core.Path.{_≡_}
+use Prim.Native.Nat.{_≤_, _-_}
+use lib.ListN.{length}
 use Rattle.opb.proofs.put_rows.Statement.{statement}
 use Rattle.opb.proofs.put_rows.Tie as tie
+use Rattle.opb.proofs.put_row.Reads as put-row-reads
 
 abbrev Inv-loop : tie.InvT-loop
-Inv-loop page₀ at list rows place₀ i₀ page place i = Unit
+Inv-loop page₀ at list rows place₀ i₀ page place i = (i ≤ rows) × (length page ≡ length page₀)
 
 abbrev μ-loop : tie.MeasureT-loop
 μ-loop page₀ at list rows place₀ i₀ page place i = rows - i
 
 loop-holds : tie.Need-loop-holds Inv-loop μ-loop
-loop-holds c = tt
+loop-holds c = search needs
 
 mul-literal : tie.Need-mul-literal Inv-loop μ-loop
 mul-literal c = search needs
@@ -49,16 +50,19 @@ shared-slice-copy-out-reason : tie.Need-shared-slice-copy-out-reason Inv-loop μ
 shared-slice-copy-out-reason c = search needs
 
 add-i : tie.Need-add-i Inv-loop μ-loop
-add-i c = omega arith
+add-i c = search needs
 
 put-row-requires : tie.Need-put-row-requires Inv-loop μ-loop
 put-row-requires c κs = search needs
 
 loop-less : tie.Need-loop-less Inv-loop μ-loop
-loop-less c = omega arith
+loop-less c = search needs
 
 loop-again : tie.Need-loop-again Inv-loop μ-loop
-loop-again c = tt
+loop-again c = search needs
+
+same-length : tie.Need-same-length Inv-loop μ-loop
+same-length c = search needs
 
 returns : tie.Need-returns Inv-loop μ-loop
 returns c = search needs
@@ -85,4 +89,5 @@ put-rows-spec =
     put-row-requires
     loop-less
     loop-again
+    same-length
     returns)

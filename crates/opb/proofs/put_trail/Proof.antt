@@ -25,6 +25,9 @@ slice-aggregate-put-rows c = sym (length-take-le (c .before .before .before .bef
 put-rows-requires : tie.Need-put-rows-requires
 put-rows-requires c κs = search needs
 
+same-length : tie.Need-same-length
+same-length c = search needs
+
 returns-2 : tie.Need-returns-2
 returns-2 c = search needs
 
@@ -38,4 +41,5 @@ put-trail-spec =
     array-share-prefix-list
     slice-aggregate-put-rows
     put-rows-requires
+    same-length
     returns-2)

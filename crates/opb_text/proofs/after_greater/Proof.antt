@@ -13,9 +13,13 @@ returns : tie.Need-returns
 unfolding place
 returns c = simp (c .relation-at-least .ensures, eq-eqb _ _ (c .before .if1 .taken))
 
+wrong-requires : tie.Need-wrong-requires
+wrong-requires c κs = search needs
+
 returns-2 : tie.Need-returns-2
 unfolding place
-returns-2 c = simp (ne-eqb _ _ (c .if1 .left))
+returns-2 c = simp (c .wrong .ensures, ne-eqb _ _ (c .before .if1 .left))
 
 pub after-greater-spec : {M : Type 1} → statement M
-after-greater-spec = tie.close (tie.spec relation-at-least-requires returns returns-2)
+after-greater-spec =
+    tie.close (tie.spec relation-at-least-requires returns wrong-requires returns-2)

@@ -6,12 +6,12 @@ use Rattle.opb_text.specs.Grammar.{place}
 use Rattle.opb_text.proofs.before_bound.Statement.{statement}
 use Rattle.opb_text.proofs.before_bound.Tie as tie
 
-at-requires : tie.Need-at-requires
-at-requires c κs = search needs
+moved-requires : tie.Need-moved-requires
+moved-requires c κs = search needs
 
 returns : tie.Need-returns
 unfolding place
-returns c = simp (c .at .ensures, eq-eqb _ _ (c .before .if1 .taken))
+returns c = simp (c .moved .ensures, eq-eqb _ _ (c .before .if1 .taken))
 
 begin-requires : tie.Need-begin-requires
 begin-requires c κs = search needs
@@ -21,4 +21,4 @@ unfolding place
 returns-2 c = simp (c .begin .ensures, ne-eqb _ _ (c .before .if1 .left))
 
 pub before-bound-spec : {M : Type 1} → statement M
-before-bound-spec = tie.close (tie.spec at-requires returns begin-requires returns-2)
+before-bound-spec = tie.close (tie.spec moved-requires returns begin-requires returns-2)

@@ -6,9 +6,12 @@ use Rattle.opb_text.specs.Grammar.{place}
 use Rattle.opb_text.proofs.before_variable.Statement.{statement}
 use Rattle.opb_text.proofs.before_variable.Tie as tie
 
+wrong-requires : tie.Need-wrong-requires
+wrong-requires c κs = search needs
+
 returns : tie.Need-returns
 unfolding place
-returns c = simp (eq-eqb _ _ (c .if1 .taken))
+returns c = simp (c .wrong .ensures, eq-eqb _ _ (c .before .if1 .taken))
 
 digits-requires : tie.Need-digits-requires
 digits-requires c κs = search needs
@@ -18,4 +21,4 @@ unfolding place
 returns-2 c = simp (c .digits .ensures, ne-eqb _ _ (c .before .if1 .left))
 
 pub before-variable-spec : {M : Type 1} → statement M
-before-variable-spec = tie.close (tie.spec returns digits-requires returns-2)
+before-variable-spec = tie.close (tie.spec wrong-requires returns digits-requires returns-2)

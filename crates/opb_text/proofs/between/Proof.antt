@@ -6,19 +6,19 @@ use Rattle.opb_text.specs.Grammar.{between}
 use Rattle.opb_text.proofs.between.Statement.{statement}
 use Rattle.opb_text.proofs.between.Tie as tie
 
-at-requires : tie.Need-at-requires
-at-requires c κs = search needs
+moved-requires : tie.Need-moved-requires
+moved-requires c κs = search needs
 
 returns : tie.Need-returns
 unfolding between
-returns c = simp (c .at .ensures, eq-eqb _ _ (c .before .if1 .taken))
+returns c = simp (c .moved .ensures, eq-eqb _ _ (c .before .if1 .taken))
 
-at-requires-2 : tie.Need-at-requires-2
-at-requires-2 c κs = search needs
+moved-requires-2 : tie.Need-moved-requires-2
+moved-requires-2 c κs = search needs
 
 returns-2 : tie.Need-returns-2
 unfolding between
-returns-2 c = simp (c .at2 .ensures, eq-eqb _ _ (c .before .if2 .taken), ne-eqb _ _ (c .before .before .if1 .left))
+returns-2 c = simp (c .moved2 .ensures, eq-eqb _ _ (c .before .if2 .taken), ne-eqb _ _ (c .before .before .if1 .left))
 
 begin-requires : tie.Need-begin-requires
 begin-requires c κs = search needs
@@ -29,4 +29,4 @@ returns-3 c = simp (c .begin .ensures, ne-eqb _ _ (c .before .if2 .left), ne-eqb
 
 pub between-spec : {M : Type 1} → statement M
 between-spec =
-    tie.close (tie.spec at-requires returns at-requires-2 returns-2 begin-requires returns-3)
+    tie.close (tie.spec moved-requires returns moved-requires-2 returns-2 begin-requires returns-3)

@@ -8,14 +8,17 @@ use Rattle.opb_text.proofs.digits.Tie as tie
 more-requires : tie.Need-more-requires
 more-requires c κs = search needs
 
-numbering-requires : tie.Need-numbering-requires
-numbering-requires c κs = search needs
+numbered-requires : tie.Need-numbered-requires
+numbered-requires c κs = search needs
 
 returns : tie.Need-returns
-returns c = simp (c .numbering .ensures, c .before .more .ensures, eq-eqb _ _ (c .before .before .if1 .taken))
+returns c = simp (c .numbered .ensures, c .before .more .ensures, eq-eqb _ _ (c .before .before .if1 .taken))
+
+wrong-requires : tie.Need-wrong-requires
+wrong-requires c κs = search needs
 
 returns-2 : tie.Need-returns-2
-returns-2 c = simp (ne-eqb _ _ (c .if1 .left))
+returns-2 c = simp (c .wrong .ensures, ne-eqb _ _ (c .before .if1 .left))
 
 pub digits-spec : {M : Type 1} → statement M
-digits-spec = tie.close (tie.spec more-requires numbering-requires returns returns-2)
+digits-spec = tie.close (tie.spec more-requires numbered-requires returns wrong-requires returns-2)

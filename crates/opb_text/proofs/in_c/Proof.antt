@@ -35,9 +35,12 @@ returns-4 : tie.Need-returns-4
 unfolding place
 returns-4 c = simp (c .sizing2 .ensures, eq-eqb _ _ (c .before .if4 .taken), ne-eqb _ _ (c .before .before .if3 .left), eq-eqb _ _ (c .before .before .before .before .before .if2 .left), sym (c .before .before .before .before .before .before .c-fault .ensures), ne-eqb _ _ (c .before .before .before .before .before .before .before .if1 .left))
 
+wrong-requires : tie.Need-wrong-requires
+wrong-requires c κs = search needs
+
 returns-5 : tie.Need-returns-5
 unfolding place
-returns-5 c = simp (ne-eqb _ _ (c .if4 .left), ne-eqb _ _ (c .before .if3 .left), eq-eqb _ _ (c .before .before .before .before .if2 .left), sym (c .before .before .before .before .before .c-fault .ensures), ne-eqb _ _ (c .before .before .before .before .before .before .if1 .left))
+returns-5 c = simp (c .wrong .ensures, ne-eqb _ _ (c .before .if4 .left), ne-eqb _ _ (c .before .before .if3 .left), eq-eqb _ _ (c .before .before .before .before .before .if2 .left), sym (c .before .before .before .before .before .before .c-fault .ensures), ne-eqb _ _ (c .before .before .before .before .before .before .before .if1 .left))
 
 pub in-c-spec : {M : Type 1} → statement M
 in-c-spec =
@@ -51,4 +54,5 @@ in-c-spec =
     returns-3
     sizing-requires-2
     returns-4
+    wrong-requires
     returns-5)

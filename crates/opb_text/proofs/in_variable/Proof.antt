@@ -30,9 +30,12 @@ returns-3 : tie.Need-returns-3
 unfolding place
 returns-3 c = simp (c .term .ensures, eq-eqb _ _ (c .before .if3 .taken), eq-eqb _ _ (c .before .before .if2 .left), sym (c .before .before .before .variable-fault .ensures), ne-eqb _ _ (c .before .before .before .before .if1 .left))
 
+wrong-requires : tie.Need-wrong-requires
+wrong-requires c κs = search needs
+
 returns-4 : tie.Need-returns-4
 unfolding place
-returns-4 c = simp (ne-eqb _ _ (c .if3 .left), eq-eqb _ _ (c .before .if2 .left), sym (c .before .before .variable-fault .ensures), ne-eqb _ _ (c .before .before .before .if1 .left))
+returns-4 c = simp (c .wrong .ensures, ne-eqb _ _ (c .before .if3 .left), eq-eqb _ _ (c .before .before .if2 .left), sym (c .before .before .before .variable-fault .ensures), ne-eqb _ _ (c .before .before .before .before .if1 .left))
 
 pub in-variable-spec : {M : Type 1} → statement M
 in-variable-spec =
@@ -44,4 +47,5 @@ in-variable-spec =
     returns-2
     term-requires
     returns-3
+    wrong-requires
     returns-4)

@@ -28,9 +28,12 @@ returns-3 : tie.Need-returns-3
 unfolding place
 returns-3 c = simp (c .weighing .ensures, eq-eqb _ _ (c .before .if3 .taken), eq-eqb _ _ (c .before .before .if2 .left), sym (c .before .before .before .long-fault .ensures), ne-eqb _ _ (c .before .before .before .before .if1 .left))
 
+wrong-requires : tie.Need-wrong-requires
+wrong-requires c κs = search needs
+
 returns-4 : tie.Need-returns-4
 unfolding place
-returns-4 c = simp (ne-eqb _ _ (c .if3 .left), eq-eqb _ _ (c .before .if2 .left), sym (c .before .before .long-fault .ensures), ne-eqb _ _ (c .before .before .before .if1 .left))
+returns-4 c = simp (c .wrong .ensures, ne-eqb _ _ (c .before .if3 .left), eq-eqb _ _ (c .before .before .if2 .left), sym (c .before .before .before .long-fault .ensures), ne-eqb _ _ (c .before .before .before .before .if1 .left))
 
 pub in-weight-spec : {M : Type 1} → statement M
 in-weight-spec =
@@ -42,4 +45,5 @@ in-weight-spec =
     returns-2
     weighing-requires
     returns-3
+    wrong-requires
     returns-4)

@@ -6,12 +6,12 @@ use Rattle.opb_text.specs.Grammar.{place}
 use Rattle.opb_text.proofs.line_start.Statement.{statement}
 use Rattle.opb_text.proofs.line_start.Tie as tie
 
-at-requires : tie.Need-at-requires
-at-requires c κs = search needs
+moved-requires : tie.Need-moved-requires
+moved-requires c κs = search needs
 
 returns : tie.Need-returns
 unfolding place
-returns c = simp (c .at .ensures, eq-eqb _ _ (c .before .if1 .taken))
+returns c = simp (c .moved .ensures, eq-eqb _ _ (c .before .if1 .taken))
 
 between-requires : tie.Need-between-requires
 between-requires c κs = search needs
@@ -21,4 +21,4 @@ unfolding place
 returns-2 c = simp (c .between .ensures, ne-eqb _ _ (c .before .if1 .left))
 
 pub line-start-spec : {M : Type 1} → statement M
-line-start-spec = tie.close (tie.spec at-requires returns between-requires returns-2)
+line-start-spec = tie.close (tie.spec moved-requires returns between-requires returns-2)
