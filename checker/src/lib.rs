@@ -1,10 +1,12 @@
 //! A checker of Dalelead, written from its scope paper (document 01), the layout of its work area and include/dalelead.h alone. It has
-//! a meaning, a merge, a propagation, a book of calls, a test of wholeness and an OPB reader of its own, and two drivers that compare a
-//! library and a program with them.
+//! a meaning, a merge, a propagation, a book of calls, a test of wholeness, an OPB reader and a console of its own, and drivers that
+//! compare a library and programs with them.
 
 pub mod assignments;
 pub mod book;
 pub mod calls;
+pub mod console;
+pub mod desk;
 pub mod direct;
 pub mod drive;
 pub mod generate;
@@ -18,6 +20,7 @@ pub mod opb;
 pub mod planted;
 pub mod programs;
 pub mod random;
+pub mod scripts;
 pub mod selftest;
 pub mod shrink;
 pub mod standin;

@@ -1,18 +1,21 @@
 //! The checker's commands.
 
-use std::io::{Read, Write};
+use std::io::{BufRead, Read, Write};
 use std::path::{Path, PathBuf};
 use std::process::ExitCode;
 use std::time::{Duration, Instant};
 
 use checker::book::Request;
 use checker::calls;
+use checker::console::{self, Said, Slip};
+use checker::desk::{self, Desk};
 use checker::drive::{self, Tally};
 use checker::generate;
 use checker::library::Library;
 use checker::misread::{self, Misread};
 use checker::planted;
-use checker::programs::{compare, describe, shorter, Outcomes, Process};
+use checker::programs::{compare, describe, describe_with, shorter, Outcomes, Process};
+use checker::scripts;
 use checker::selftest;
 use checker::shrink;
 use checker::standin::{Fault, Standin};
@@ -23,16 +26,24 @@ const USAGE: &str = "checker COMMAND
   selftest                 the checker against itself and document 01's examples
   planted [loud]           faults planted into stand-ins; each has to be found
   opb PROGRAM [ARGUMENT..] a program that reads standard input, on the texts of tests/opb and sixteen thousand generated ones
+  console PROGRAM [ARGUMENT..]
+                           a console that reads standard input, on five thousand generated scripts
+  script SEED              the script of one seed
   calls [SEED]             the linked library on ten thousand lists of calls, or on the list of one seed
   standin [SEED]           the same with the checker's own stand-in for the library
-  all PROGRAM [ARGUMENT..] selftest, planted, opb and calls
+  all OPB_PROGRAM CONSOLE_PROGRAM
+                           selftest, planted, opb, console and calls
   print                    the checker's own OPB program
+  answer                   the checker's own console
 The folder tests/opb is looked for from the current folder and from the one above it.";
 
 const LISTS: u64 = 10_000;
 const TEXTS: usize = 16_000;
+const SCRIPTS: usize = 5_000;
 /// The time for making a list or text shorter that shows a difference.
 const TIME: Duration = Duration::from_secs(30);
+/// The longest that a console may take over an answer.
+const PATIENCE: Duration = Duration::from_secs(20);
 const TEXT_SEED: u64 = 20_240_601;
 
 fn main() -> ExitCode {
@@ -46,8 +57,12 @@ fn main() -> ExitCode {
         ("opb", 1..) => run_opb(rest),
         ("calls", 0 | 1) => run_calls(seed),
         ("standin", 0 | 1) => run_lists(&Standin { fault: Fault::None }, seed),
-        ("all", 1..) => run_selftest().and_then(|()| run_planted(false)).and_then(|()| run_opb(rest)).and_then(|()| run_calls(None)),
+        ("console", 1..) => run_console(rest),
+        ("script", 1) => write(&scripts::script(seed.unwrap_or(0))),
+        ("all", 2) => run_all(&rest[..1], &rest[1..]),
         ("print", 0) => print(),
+        ("answer", 0) => answer(false),
+        ("answer", 1) => answer(true),
         _ => Err(USAGE.into()),
     };
     match result {
@@ -57,6 +72,14 @@ fn main() -> ExitCode {
             ExitCode::FAILURE
         }
     }
+}
+
+fn run_all(opb: &[String], console: &[String]) -> Result<(), String> {
+    run_selftest()?;
+    run_planted(false)?;
+    run_opb(opb)?;
+    run_console(console)?;
+    run_calls(None)
 }
 
 fn folder() -> Option<PathBuf> {
@@ -76,7 +99,7 @@ fn run_planted(loud: bool) -> Result<(), String> {
     let start = Instant::now();
     let hook = std::panic::take_hook();
     std::panic::set_hook(Box::new(|_| ()));
-    let found = planted::run(LISTS, TEXTS, loud);
+    let found = planted::run(LISTS, TEXTS, SCRIPTS, loud);
     std::panic::set_hook(hook);
     let found = found.map_err(|what| format!("planted: {what}"))?;
     for line in &found {
@@ -124,6 +147,54 @@ fn run_opb(command: &[String]) -> Result<(), String> {
         texts.len() - from_files,
         texts.len() as f64 / seconds
     );
+    Ok(())
+}
+
+fn run_console(command: &[String]) -> Result<(), String> {
+    let start = Instant::now();
+    let program = Desk::new(command.to_vec(), PATIENCE);
+    let (scripts, said) = desk::expected(scripts::scripts(SCRIPTS));
+    everything_said(&said)?;
+    if let Some(difference) = desk::compare(&program, &scripts) {
+        let found = desk::shorter(&program, TIME, difference);
+        return Err(format!("console: difference, {}", describe_with(&found, &desk::right(&found.text))));
+    }
+    let seconds = start.elapsed().as_secs_f64();
+    println!("console: {said:?}");
+    println!("console: {} scripts agree, {seconds:.1} s, {:.0} scripts a second", scripts.len(), scripts.len() as f64 / seconds);
+    Ok(())
+}
+
+/// Every command has had each of its codes, and every error came.
+fn everything_said(said: &Said) -> Result<(), String> {
+    let wanted: [(&str, &[u64]); 18] = [
+        ("plan", &[0, 1, 3, 4, 5, 6, 7, 8]),
+        ("give", &[0, 9, 10, 11]),
+        ("open", &[0, 9, 14]),
+        ("propagate", &[0, 9]),
+        ("propagate to a conflict", &[0]),
+        ("back", &[0, 9, 15]),
+        ("bounds", &[0, 9, 16]),
+        ("why", &[0, 9, 10, 12, 13]),
+        ("conflict", &[0, 9, 16, 17]),
+        ("origin", &[0, 9, 10, 12]),
+        ("trail", &[0, 9]),
+        ("no command", &[0]),
+        ("a line too long", &[0]),
+        ("rules broken off by a line too long", &[0]),
+        ("rules broken off by an empty line", &[0]),
+        ("rules broken off by a rule misread", &[0]),
+        ("rules broken off by another line", &[0]),
+        ("rules broken off by the end", &[0]),
+    ];
+    for (name, codes) in wanted {
+        for code in codes {
+            let many = said.get(&(name, *code)).copied().unwrap_or(0);
+            if many < 2 {
+                return Err(format!("console: {name} had code {code} only {many} times"));
+            }
+        }
+    }
     Ok(())
 }
 
@@ -206,4 +277,26 @@ fn print() -> Result<(), String> {
     let mut text = Vec::new();
     std::io::stdin().read_to_end(&mut text).map_err(|e| e.to_string())?;
     std::io::stdout().write_all(&misread::print(&text, Misread::None)).map_err(|e| e.to_string())
+}
+
+fn write(bytes: &[u8]) -> Result<(), String> {
+    std::io::stdout().write_all(bytes).map_err(|e| e.to_string())
+}
+
+/// The checker's own console: every answer is written before the next line is read, or, as a fault, all of them at the end.
+fn answer(late: bool) -> Result<(), String> {
+    let mut input = std::io::stdin().lock();
+    let mut console = console::Console::new(Slip::None);
+    let (mut line, mut kept) = (Vec::new(), String::new());
+    let mut out = std::io::stdout().lock();
+    while input.read_until(b'\n', &mut line).map_err(|e| e.to_string())? > 0 {
+        kept += &console.line(line.strip_suffix(b"\n").unwrap_or(&line));
+        line.clear();
+        if !late && !kept.is_empty() {
+            out.write_all(kept.as_bytes()).and_then(|()| out.flush()).map_err(|e| e.to_string())?;
+            kept.clear();
+        }
+    }
+    kept += &console.end();
+    out.write_all(kept.as_bytes()).and_then(|()| out.flush()).map_err(|e| e.to_string())
 }

@@ -3,10 +3,13 @@
 use std::panic;
 use std::time::Duration;
 
+use crate::console::{self, Slip, SLIPS};
+use crate::desk;
 use crate::drive;
 use crate::generate;
 use crate::misread::{Own, MISREADS};
-use crate::programs::{compare, describe, shorter, Outcomes};
+use crate::programs::{compare, describe, describe_with, shorter, Outcomes, Program};
+use crate::scripts;
 use crate::shrink;
 use crate::standin::{Fault, Odd, Standin};
 use crate::texts;
@@ -86,7 +89,7 @@ const ODD: [Odd; 10] = [
 ];
 
 /// Finds every planted fault; gives a line on each, or what was not found.
-pub fn run(lists: u64, texts: usize, loud: bool) -> Result<Vec<String>, String> {
+pub fn run(lists: u64, texts: usize, scripts: usize, loud: bool) -> Result<Vec<String>, String> {
     let mut said = Vec::new();
     let rules = RULES.iter().map(|rule| Fault::Without(rule));
     for fault in FAULTS.into_iter().chain(rules).chain(ODD.map(Fault::Strict)) {
@@ -102,7 +105,23 @@ pub fn run(lists: u64, texts: usize, loud: bool) -> Result<Vec<String>, String> 
             said.push(describe(&found));
         }
     }
+    let (scripts, _) = desk::expected(scripts::scripts(scripts));
+    for slip in SLIPS {
+        said.push(find_slip(&console::Own(slip), slip, &scripts, loud)?);
+    }
+    // A console that does not answer before the end is told by typing to it only: this one is a program of its own.
+    let own = std::env::current_exe().map_err(|e| e.to_string())?.display().to_string();
+    let late = desk::Desk::new(vec![own, "answer".into(), "late".into()], Duration::from_millis(500));
+    said.push(find_slip(&late, Slip::Late, &scripts, loud)?);
     Ok(said)
+}
+
+fn find_slip(program: &dyn Program, slip: Slip, scripts: &[desk::Expected], loud: bool) -> Result<String, String> {
+    let difference = desk::compare(program, scripts).ok_or(format!("{slip:?} was not found"))?;
+    let found = desk::shorter(program, TIME, difference);
+    let lines = console::lines(&found.text).count();
+    let rest = if loud { format!("\n{}", describe_with(&found, &desk::right(&found.text))) } else { String::new() };
+    Ok(format!("{slip:?}: found, {lines} lines left of {}{rest}", found.name))
 }
 
 fn find(fault: Fault, lists: u64, loud: bool) -> Result<String, String> {

@@ -171,17 +171,21 @@ fn together(first: &[u8], constraints: &[Vec<u8>]) -> Vec<u8> {
 
 /// What is printed about a difference.
 pub fn describe(difference: &Difference) -> String {
+    describe_with(difference, listing::program(&difference.text).as_bytes())
+}
+
+/// The same, with what was expected.
+pub fn describe_with(difference: &Difference, expected: &[u8]) -> String {
     let show = |bytes: &[u8]| -> String {
         let some = &bytes[..bytes.len().min(600)];
         let shown: String = some.iter().map(|byte| std::ascii::escape_default(*byte).to_string()).collect();
         let rest = if bytes.len() > some.len() { format!(" .. ({} bytes)", bytes.len()) } else { String::new() };
         shown.replace("\\n", "\\n\n    ").trim_end().to_string() + &rest
     };
-    let expected = listing::program(&difference.text);
     let (printed, line) = match &difference.printed {
         Ok(bytes) => {
             let same = |(a, b): &(&[u8], &[u8])| a == b;
-            let lines = bytes.split(|byte| *byte == b'\n').zip(expected.as_bytes().split(|byte| *byte == b'\n'));
+            let lines = bytes.split(|byte| *byte == b'\n').zip(expected.split(|byte| *byte == b'\n'));
             (show(bytes), format!("first in line {}", 1 + lines.take_while(same).count()))
         }
         Err(what) => (what.clone(), "nothing to compare".into()),
@@ -190,6 +194,6 @@ pub fn describe(difference: &Difference) -> String {
         "{}, {line}\n  text, shortened:\n    {}\n  printed:\n    {printed}\n  expected:\n    {}",
         difference.name,
         show(&difference.text),
-        show(expected.as_bytes())
+        show(expected)
     )
 }

@@ -7,12 +7,17 @@ use crate::calls::*;
 
 /// Leaves out runs of items, halves first and single ones last, as long as what is left fails.
 pub fn shorten<T: Clone>(items: &[T], fails: &mut dyn FnMut(&[T]) -> bool) -> Vec<T> {
+    shorten_while(items, &|| true, fails)
+}
+
+/// The same, no longer than there is time.
+pub fn shorten_while<T: Clone>(items: &[T], time: &dyn Fn() -> bool, fails: &mut dyn FnMut(&[T]) -> bool) -> Vec<T> {
     let mut kept = items.to_vec();
     let mut run = kept.len().div_ceil(2).max(1);
     loop {
         let mut at = 0;
         let mut shorter = false;
-        while at < kept.len() {
+        while at < kept.len() && time() {
             let mut without = kept[..at].to_vec();
             without.extend_from_slice(&kept[(at + run).min(kept.len())..]);
             if without.len() < kept.len() && fails(&without) {
@@ -22,7 +27,7 @@ pub fn shorten<T: Clone>(items: &[T], fails: &mut dyn FnMut(&[T]) -> bool) -> Ve
                 at += run;
             }
         }
-        if run == 1 && !shorter {
+        if run == 1 && !shorter || !time() {
             return kept;
         }
         if run > 1 {
