@@ -18,10 +18,10 @@ ghost use lib.ListN.{length};
 // The longest line.
 const LINE: usize = 65_536;
 
-// What is kept from byte to byte: the counters of the plan in the area; the number of lines so far; the bytes of the next one, one more
-// than the longest has for any longer one; and the plan that is being read: its atoms, the number of rules that it still expects, 0 where
-// none is being read, and the rules and entries that it has.
-struct Session {
+// What is kept from byte to byte: the counters of the plan in the area; the number of lines that have ended; the bytes of the next one so
+// far, one more than the longest has for any longer one; and the plan that is being read: its atoms, the rules that it is to have, 0 where
+// no plan is being read, and the rules and entries that it has so far.
+struct Kept {
     counters: Counters,
     lines: u64,
     held: usize,
@@ -38,8 +38,8 @@ fn zero() -> Counters {
     }
 }
 
-fn start() -> Session {
-    Session {
+fn start() -> Kept {
+    Kept {
         counters: zero(),
         lines: 0,
         held: 0,
@@ -64,8 +64,8 @@ fn least(a: usize, b: usize) -> usize
     if a < b { a } else { b }
 }
 
-fn counted(s: Session, counters: Counters) -> Session {
-    Session {
+fn counted(s: Kept, counters: Counters) -> Kept {
+    Kept {
         counters,
         lines: s.lines,
         held: s.held,
@@ -76,9 +76,9 @@ fn counted(s: Session, counters: Counters) -> Session {
     }
 }
 
-fn held(s: Session, bytes: usize) -> Session {
+fn held(s: Kept, bytes: usize) -> Kept {
     let counters = s.counters;
-    Session {
+    Kept {
         counters,
         lines: s.lines,
         held: bytes,
@@ -90,9 +90,9 @@ fn held(s: Session, bytes: usize) -> Session {
 }
 
 // One line more, and none of the next.
-fn ended(s: Session) -> Session {
+fn ended(s: Kept) -> Kept {
     let counters = s.counters;
-    Session {
+    Kept {
         counters,
         lines: sum(s.lines, 1),
         held: 0,
@@ -104,9 +104,9 @@ fn ended(s: Session) -> Session {
 }
 
 // A plan is being read; with 0 rules to come, none is.
-fn reading(s: Session, atoms: u64, expected: u64, rules: u64, entries: u64) -> Session {
+fn reading(s: Kept, atoms: u64, expected: u64, rules: u64, entries: u64) -> Kept {
     let counters = s.counters;
-    Session {
+    Kept {
         counters,
         lines: s.lines,
         held: s.held,
@@ -146,7 +146,7 @@ fn answer_two(name: &[u8], a: u64, b: u64) {
 }
 
 // The line is none of the commands: a plan that is being read is dropped.
-fn wrong(s: Session) -> Session {
+fn wrong(s: Kept) -> Kept {
     answer_one(b"error ", s.lines);
     reading(s, 0, 0, 0, 0)
 }
@@ -250,7 +250,7 @@ fn answer_propagate(answer: Propagated) -> Counters {
     }
 }
 
-fn bare(area: &mut [u64], s: Session, command: Bare) -> Session {
+fn bare(area: &mut [u64], s: Kept, command: Bare) -> Kept {
     let counters = s.counters;
     match command {
         Bare::Open => {
@@ -271,7 +271,7 @@ fn bare(area: &mut [u64], s: Session, command: Bare) -> Session {
     }
 }
 
-fn of_literal(area: &mut [u64], s: Session, command: OfLiteral, literal: i64) -> Session {
+fn of_literal(area: &mut [u64], s: Kept, command: OfLiteral, literal: i64) -> Kept {
     let counters = s.counters;
     let mut list = [0i64; 4096];
     match command {
@@ -293,7 +293,7 @@ fn of_literal(area: &mut [u64], s: Session, command: OfLiteral, literal: i64) ->
     }
 }
 
-fn of_number(area: &mut [u64], s: Session, command: OfNumber, number: u64) -> Session {
+fn of_number(area: &mut [u64], s: Kept, command: OfNumber, number: u64) -> Kept {
     let counters = s.counters;
     match command {
         OfNumber::Back => {
@@ -326,8 +326,8 @@ fn load_plan(
     counts: &[u64; 256],
     weights: &[i64; 4096],
     literals: &[i64; 4096],
-    s: Session,
-) -> Session {
+    s: Kept,
+) -> Kept {
     let rules = least(s.rules as usize, 256);
     let entries = least(s.entries as usize, 4096);
     let all_heads = &heads[..];
@@ -376,9 +376,9 @@ fn add_rule(
     counts: &mut [u64; 256],
     weights: &mut [i64; 4096],
     literals: &mut [i64; 4096],
-    s: Session,
+    s: Kept,
     rule: Rule,
-) -> Session {
+) -> Kept {
     let i = s.rules as usize;
     let bound = rule.bound;
     if i < 256 {
@@ -413,7 +413,7 @@ fn add_rule(
 }
 
 // A plan is begun. One without rules is loaded at once; one outside the limits gets load's refusal, and no rule is expected.
-fn begin_plan(area: &mut [u64], s: Session, atoms: u64, sentences: u64) -> Session {
+fn begin_plan(area: &mut [u64], s: Kept, atoms: u64, sentences: u64) -> Kept {
     let limits = Limits::base();
     if atoms == 0 {
         answer_two(b"plan ", 1, 0);
@@ -449,7 +449,7 @@ fn begin_plan(area: &mut [u64], s: Session, atoms: u64, sentences: u64) -> Sessi
 // ---- lines
 
 // A line where no rule is expected.
-fn command_line(area: &mut [u64], s: Session, command: Command) -> Session {
+fn command_line(area: &mut [u64], s: Kept, command: Command) -> Kept {
     match command {
         Command::Empty => {
             return s;
@@ -489,8 +489,8 @@ fn take_line(
     counts: &mut [u64; 256],
     weights: &mut [i64; 4096],
     literals: &mut [i64; 4096],
-    s: Session,
-) -> Session {
+    s: Kept,
+) -> Kept {
     let command = console_text::parse(line);
     if s.expected == 0 {
         return command_line(area, s, command);
@@ -531,8 +531,8 @@ fn end_line(
     counts: &mut [u64; 256],
     weights: &mut [i64; 4096],
     literals: &mut [i64; 4096],
-    s: Session,
-) -> Session {
+    s: Kept,
+) -> Kept {
     let n = s.held;
     let next = ended(s);
     if n > LINE {
@@ -554,7 +554,7 @@ fn end_line(
 }
 
 // A byte of a line.
-fn hold(line: &mut [u8; 65_536], s: Session, b: u8) -> Session {
+fn hold(line: &mut [u8; 65_536], s: Kept, b: u8) -> Kept {
     let n = s.held;
     if n < LINE {
         line[n] = b;
@@ -574,8 +574,8 @@ fn feed(
     counts: &mut [u64; 256],
     weights: &mut [i64; 4096],
     literals: &mut [i64; 4096],
-    s: Session,
-) -> Session {
+    s: Kept,
+) -> Kept {
     let mut now = s;
     let mut i: usize = 0;
     while i < input.len() {
@@ -622,7 +622,7 @@ fn read_all(
     counts: &mut [u64; 256],
     weights: &mut [i64; 4096],
     literals: &mut [i64; 4096],
-) -> Session {
+) -> Kept {
     let mut now = start();
     let mut turns: u64 = 18_446_744_073_709_551_615;
     while turns > 0 {
@@ -660,8 +660,8 @@ fn last_line(
     counts: &mut [u64; 256],
     weights: &mut [i64; 4096],
     literals: &mut [i64; 4096],
-    s: Session,
-) -> Session {
+    s: Kept,
+) -> Kept {
     if s.held == 0 {
         return s;
     }
@@ -680,7 +680,7 @@ fn last_line(
 }
 
 // Where rules are still expected, the end is one more line that is none.
-fn finish(s: Session) {
+fn finish(s: Kept) {
     if s.expected > 0 {
         wrong(ended(s));
     }

@@ -10,7 +10,7 @@ use lib.ListN.{length, drop, set, length-set}
 use lib.Seq.{drop-drop, drop-nil, sets, set-out}
 use Rattle.console_text.specs.declared.Signed.the-variants.{Integer, NotInteger}
 use Rattle.console_text.specs.declared.Unsigned.the-variants.{Natural, NotNatural}
-use Rattle.console_text.specs.Command.{entry, entries-of, all-entries, entry-count, weights-in, literals-in}
+use Rattle.console_text.specs.Command.{entries-of, all-entries, entry-count, weights-in, literals-in}
 use Rattle.console_text.specs.Cursor.{EntryAt, NoEntry}
 use Rattle.console_text.specs.Numbers.{signed-of}
 use Rattle.console_text.specs.Words.{Word, words}

@@ -1,4 +1,6 @@
-pub mod Words
-pub mod Numbers
+pub mod Checks
 pub mod Cursor
 pub mod Entries
+pub mod Numbers
+pub mod Rules
+pub mod Words

@@ -17,11 +17,11 @@ returns c = search needs
 
 returns-2 : tie.Need-returns-2
 returns-2 c = let g = c .before .before .x .given in
-    sym (minus-large _ (g .0 .0) (g .1) (c .if1 .taken))
+    sym (minus-large _ (g .0 .0) (g .1) (omega arith))
 
 returns-3 : tie.Need-returns-3
 returns-3 c = let g = c .before .before .before .x .given in
-    sym (minus-zero _ (g .0 .0) (g .1) (c .if2 .taken))
+    sym (minus-zero _ (g .0 .0) (g .1) (omega arith))
 
 sub-t4 : tie.Need-sub-t4
 sub-t4 c = search needs
@@ -31,11 +31,11 @@ cast-t5 c = search needs
 
 sub-t6 : tie.Need-sub-t6
 sub-t6 c = let g = c .before .before .before .x .given in
-    opposite-safe (g .0 .0) (omega arith) (c .before .if1 .left)
+    opposite-safe (g .0 .0) (omega arith) (omega arith)
 
 returns-4 : tie.Need-returns-4
 returns-4 c = let g = c .before .before .before .x .given in
-    sym (minus-fits _ (g .0 .0) (g .1) (omega arith) (c .before .if1 .left))
+    sym (minus-fits _ (g .0 .0) (g .1) (omega arith) (omega arith))
 
 pub minus-spec : {M : Type 1} → statement M
 minus-spec =

@@ -1,6 +1,7 @@
 -- A number up to 2^63 - 1 is itself. Assumes nothing.
 use mathlib.Core.Path.{sym}
 use borrow.Author.Needs.{needs}
+use native.Mathlib.Omega.{arith}
 use Rattle.console_text.proofs.Numbers.{plus-large, plus-fits}
 use Rattle.console_text.proofs.plus.Statement.{statement}
 use Rattle.console_text.proofs.plus.Tie as tie
@@ -16,14 +17,14 @@ returns c = search needs
 
 returns-2 : tie.Need-returns-2
 returns-2 c = let g = c .before .before .x .given in
-    sym (plus-large _ (g .0 .0) (g .1) (c .if1 .taken))
+    sym (plus-large _ (g .0 .0) (g .1) (omega arith))
 
 cast-t4 : tie.Need-cast-t4
 cast-t4 c = search needs
 
 returns-3 : tie.Need-returns-3
 returns-3 c = let g = c .before .before .x .given in
-    sym (plus-fits _ (g .0 .0) (g .1) (c .if1 .left))
+    sym (plus-fits _ (g .0 .0) (g .1) (omega arith))
 
 pub plus-spec : {M : Type 1} → statement M
 plus-spec = tie.close (tie.spec enum-known-x enum-told returns returns-2 cast-t4 returns-3)

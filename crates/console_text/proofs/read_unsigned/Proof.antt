@@ -28,12 +28,12 @@ shared-slice-read-b c = search needs
 returns-2 : tie.Need-returns-2 Inv-loop μ-loop
 returns-2 c = let s = c .before .before .before .before .before in let w = s .args .word .now in let i = c .before .before .before .loop .i in
     let n = c .before .before .before .loop .n in
-    sym (c .before .before .before .loop .inv .2 ∙ below-digits w i n (omega arith) (c .if2 .taken))
+    sym (c .before .before .before .loop .inv .2 ∙ below-digits w i n (omega arith) (omega arith))
 
 returns-3 : tie.Need-returns-3 Inv-loop μ-loop
 returns-3 c = let p = c .before .before .before .before in let s = p .before .before in let w = s .args .word .now in let i = p .loop .i in
     let n = p .loop .n in
-    sym (p .loop .inv .2 ∙ above-digits w i n (omega arith) (c .if3 .taken))
+    sym (p .loop .inv .2 ∙ above-digits w i n (omega arith) (omega arith))
 
 cast-d : tie.Need-cast-d Inv-loop μ-loop
 cast-d c = search needs
