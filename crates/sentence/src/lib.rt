@@ -75,6 +75,28 @@ fn folds(area: &[u64], kind: Kind, first: u64, start: usize, count: usize, n: us
     Extremes { least, greatest }
 }
 
+// The same loop for each kind, so that in the loop the kind is no question.
+fn folds_by_kind(
+    area: &[u64],
+    kind: Kind,
+    first: u64,
+    start: usize,
+    count: usize,
+    n: usize,
+) -> Extremes
+    requires { ⌜ Entries (now area) start count n ⌝ }
+    requires { ⌜ Rooms kind first (value-at (now area) n) (entry-words (now area) start count) ⌝ }
+    ensures { λ r. ⌜ FoldsAre kind first (value-at (now (area .entry)) n) (entry-words (now (area .entry)) start count) r ⌝ }
+{
+    match kind {
+        Kind::Sum => folds(area, Kind::Sum, first, start, count, n),
+        Kind::Product => folds(area, Kind::Product, first, start, count, n),
+        Kind::Count => folds(area, Kind::Count, first, start, count, n),
+        Kind::Max => folds(area, Kind::Max, first, start, count, n),
+        Kind::Min => folds(area, Kind::Min, first, start, count, n),
+    }
+}
+
 // The extremes of the sentence whose eight words start at `base`, with n atoms and `count` sentences in the area.
 pub fn extremes_of(area: &[u64], n: usize, count: usize, base: usize) -> Extremes
     requires { ⌜ Ready (now area) n count base ⌝ }
@@ -84,7 +106,7 @@ pub fn extremes_of(area: &[u64], n: usize, count: usize, base: usize) -> Extreme
     let first = steps::start_of(kind, area[base + 3]);
     let start = 4 * n + 8 * count + 2 * area[base + 6] as usize;
     let merged = (area[base + 7] / 65536) as usize;
-    folds(area, kind, first, start, merged, n)
+    folds_by_kind(area, kind, first, start, merged, n)
 }
 
 // The second best of a maximum up, of a minimum down.

@@ -66,8 +66,8 @@ mul-merged c = search needs
 shared-slice-read-merged : tie.Need-shared-slice-read-merged
 shared-slice-read-merged c = search needs
 
-folds-requires : tie.Need-folds-requires
-folds-requires c κs =
+folds-by-kind-requires : tie.Need-folds-by-kind-requires
+folds-by-kind-requires c κs =
     let a = c .before .before .before .before .before .before .before .args in
     let w = a .area .now in
     let k = c .before .before .before .before .kind-of .result in
@@ -84,8 +84,8 @@ returns c =
     let w = a .area .now in
     let k = c .before .before .before .before .before .kind-of .result in
     let e = c .before .before .before .before .before .kind-of .ensures in
-    folds-extremes w (a .n) (a .count) (a .base) (c .before .before .before .before .before .before .before .before .pre) k e (c .folds .result)
-    (subst (λ x. FoldsAre k x (value-at w (a .n)) (entry-words w (entry-at w (a .n) (a .count) (a .base)) (merged-at w (a .base))) (c .folds .result)) (c .before .before .before .start-of .ensures) (c .folds .ensures))
+    folds-extremes w (a .n) (a .count) (a .base) (c .before .before .before .before .before .before .before .before .pre) k e (c .folds-by-kind .result)
+    (subst (λ x. FoldsAre k x (value-at w (a .n)) (entry-words w (entry-at w (a .n) (a .count) (a .base)) (merged-at w (a .base))) (c .folds-by-kind .result)) (c .before .before .before .start-of .ensures) (c .folds-by-kind .ensures))
 
 pub extremes-of-spec : {M : Type 1} → statement M
 extremes-of-spec =
@@ -110,5 +110,5 @@ extremes-of-spec =
     add-merged
     mul-merged
     shared-slice-read-merged
-    folds-requires
+    folds-by-kind-requires
     returns)
