@@ -69,7 +69,7 @@ fn take_back_whole(area: &mut [u64], lim: Limits, counters: Counters, k: u64) ->
     }
     let n = (area[0] % 65536) as usize;
     let count = (area[0] / 65536 % 65536) as usize;
-    let mut touched = [0u64; 4097];
+    let mut touched = [0u8; 4097];
     let left = step::cut(area, n, len as usize, k, &mut touched);
     step::set_header(area, n, left, k);
     refresh::refresh(area, n, count, &touched);

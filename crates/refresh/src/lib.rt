@@ -6,7 +6,7 @@ ghost use Rattle.refresh.specs.Refresh.{Untouched, Refreshable, Refreshe
 ghost use Rattle.refresh.specs.One.{TouchReady, OneRefreshed};
 
 // Whether the head or a merged entry of the sentence at `base` has a touched atom.
-fn touches(area: &[u64], n: usize, count: usize, base: usize, touched: &[u64]) -> bool
+fn touches(area: &[u64], n: usize, count: usize, base: usize, touched: &[u8]) -> bool
     requires { ⌜ TouchReady (now area) n count base (now touched) ⌝ }
     ensures { λ r. ⌜ Tells (not r) (Untouched (now (area .entry)) n count base (now (touched .entry))) ⌝ }
 {
@@ -28,7 +28,7 @@ fn touches(area: &[u64], n: usize, count: usize, base: usize, touched: &[u64]) -
 }
 
 // The sentence at `base`, renewed and marked as pending where a touched atom is its own.
-fn refresh_one(area: &mut [u64], n: usize, count: usize, base: usize, touched: &[u64])
+fn refresh_one(area: &mut [u64], n: usize, count: usize, base: usize, touched: &[u8])
     requires { ⌜ TouchReady (now area) n count base (now touched) ⌝ }
     ensures { λ _. ⌜ OneRefreshed (now (area .entry)) (now (area .exit)) n count base (now (touched .entry)) ⌝ }
 {
@@ -43,7 +43,7 @@ fn refresh_one(area: &mut [u64], n: usize, count: usize, base: usize, touched: &
 }
 
 // All sentences, after the values of the touched atoms changed. `touched` has a word for each atom, not 0 where its value changed.
-pub fn refresh(area: &mut [u64], n: usize, count: usize, touched: &[u64])
+pub fn refresh(area: &mut [u64], n: usize, count: usize, touched: &[u8])
     requires { ⌜ ((lim : Limits) × Refreshable lim (now area) n count (now touched)) ⌝ }
     ensures { λ _. ⌜ Refreshed (now (area .entry)) (now (area .exit)) n count (now (touched .entry)) ⌝ }
 {

@@ -20,7 +20,7 @@ pub fn put(area: &mut [u64], n: usize, len: usize, literal: u64, mark: u64)
 }
 
 // The rows above level k go off the trail, and their atoms are marked in `touched`; the rows left. Word 0 stays as it was.
-pub fn cut(area: &mut [u64], n: usize, len: usize, k: u64, touched: &mut [u64]) -> usize
+pub fn cut(area: &mut [u64], n: usize, len: usize, k: u64, touched: &mut [u8]) -> usize
     requires { ⌜ Stands (now area) n len × (length (now touched) ≡ 4097) ⌝ }
     ensures { λ r. ⌜ Cut (now (area .entry)) (now (area .exit)) n len (level-of (now (area .entry))) k r (now (touched .exit)) ⌝ }
 {

@@ -19,7 +19,7 @@ pub fn advance(area: &mut [u64], n: usize, count: usize, len: usize, literal: u6
     ensures { λ _. ⌜ ((lim : Limits) (level : ℕ) → Advanceable lim (now (area .entry)) n count len level literal mark → Advanced lim (now (area .entry)) (now (area .exit)) len level literal mark) ⌝ }
 {
     step::put(area, n, len, literal, mark);
-    let mut touched = [0u64; 4097];
+    let mut touched = [0u8; 4097];
     touched[(literal / 2) as usize] = 1;
     refresh::refresh(area, n, count, &touched);
 }

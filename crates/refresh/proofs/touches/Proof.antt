@@ -23,9 +23,6 @@ mul-head c = search needs
 shared-slice-read-head : tie.Need-shared-slice-read-head Inv-loop μ-loop
 shared-slice-read-head c = search needs
 
-mul-if1 : tie.Need-mul-if1 Inv-loop μ-loop
-mul-if1 c = search needs
-
 shared-slice-read-if1 : tie.Need-shared-slice-read-if1 Inv-loop μ-loop
 shared-slice-read-if1 c = search needs
 
@@ -83,10 +80,6 @@ mul-a-2 c = search needs
 shared-slice-read-a : tie.Need-shared-slice-read-a Inv-loop μ-loop
 shared-slice-read-a c = search needs
 
-mul-if2 : tie.Need-mul-if2 Inv-loop μ-loop
-mul-if2 c = let s = c .before .before .before .before .before .before .before .before in
-    omega (arith, atom-in (s .args .area .now) (s .args .n) (s .args .count) (s .args .base) (s .args .touched .now) (s .pre) (c .before .before .loop .i) (c .before .loop-test .taken))
-
 shared-slice-read-if2 : tie.Need-shared-slice-read-if2 Inv-loop μ-loop
 shared-slice-read-if2 c = let s = c .before .before .before .before .before .before .before .before .before in
     omega (arith, atom-in (s .args .area .now) (s .args .n) (s .args .count) (s .args .base) (s .args .touched .now) (s .pre) (c .before .before .before .loop .i) (c .before .before .loop-test .taken), s .pre .1 .table)
@@ -116,7 +109,6 @@ touches-spec =
     μ-loop
     mul-head
     shared-slice-read-head
-    mul-if1
     shared-slice-read-if1
     returns
     mul-start
@@ -136,7 +128,6 @@ touches-spec =
     add-a-2
     mul-a-2
     shared-slice-read-a
-    mul-if2
     shared-slice-read-if2
     returns-2
     add-i

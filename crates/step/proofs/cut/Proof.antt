@@ -101,9 +101,6 @@ mul-area-5 c = search needs
 slice-write-area-3 : tie.Need-slice-write-area-3 Inv-loop μ-loop
 slice-write-area-3 c = simp length-set (omega arith)
 
-mul-touched : tie.Need-mul-touched Inv-loop μ-loop
-mul-touched c = let q = last-row c in omega arith
-
 slice-write-touched : tie.Need-slice-write-touched Inv-loop μ-loop
 slice-write-touched c = let q = last-row c in omega arith
 
@@ -153,7 +150,6 @@ cut-spec =
     add-area-3
     mul-area-5
     slice-write-area-3
-    mul-touched
     slice-write-touched
     loop-less
     loop-again

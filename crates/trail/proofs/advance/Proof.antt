@@ -13,9 +13,6 @@ use Rattle.trail.proofs.advance.Tie as tie
 put-requires : tie.Need-put-requires
 put-requires c κs = let s = c .before .before in put-ready (s .pre .0) (s .args .area .now) (s .args .n) (s .args .count) (s .args .len) (s .pre .1) (s .args .literal) (s .args .mark) (s .pre .2)
 
-mul-touched : tie.Need-mul-touched
-mul-touched c = search needs
-
 array-write-touched : tie.Need-array-write-touched
 array-write-touched c = search needs
 
@@ -50,7 +47,6 @@ advance-spec =
     tie.close
     (tie.spec
     put-requires
-    mul-touched
     array-write-touched
     slice-aggregate-refresh
     refresh-requires
