@@ -209,7 +209,7 @@ fn own_head(head: u64, literals: &[i64]) -> bool
 // ---- 7: signs
 
 // 1 for an atom as itself, 2 for one negated: two marks add up to 3 where they differ.
-fn mark(literal: i64) -> u64
+fn mark(literal: i64) -> u8
     ensures { λ r. ⌜ r ≡ 1 + sign literal ⌝ }
 {
     if signed::negative(literal) {
@@ -223,7 +223,7 @@ fn both_signs(literals: &[i64]) -> bool
     requires { ⌜ no-literal 4096 (now literals) ≡ false ⌝ }
     ensures { λ r. ⌜ r ≡ negated (now (literals .entry)) ⌝ }
 {
-    let mut met = [0u64; 4097];
+    let mut met = [0u8; 4097];
     let mut i = 0;
     while i < literals.len() {
         let l = literals[i];

@@ -183,7 +183,7 @@ pub fn load_within(
         weights,
         literals,
     );
-    let touched = [1u64; 4097];
+    let touched = [1u8; 4097];
     refresh::refresh(area, n, heads.len(), &touched);
     answer
 }

@@ -66,9 +66,6 @@ size-requires c κs = search needs
 mark-requires : tie.Need-mark-requires Inv-loop μ-loop
 mark-requires c κs = search needs
 
-mul-before : tie.Need-mul-before Inv-loop μ-loop
-mul-before c = let k = known (c .before) in omega (arith, k .is, k .high)
-
 array-read-before : tie.Need-array-read-before Inv-loop μ-loop
 array-read-before c = let k = known (c .before) in omega (arith, k .is, k .high)
 
@@ -78,9 +75,6 @@ sub-if1 c = let m = marked c in ⊎-elim {A = sign (nth (c .before .before .befo
 returns : tie.Need-returns Inv-loop μ-loop
 returns c = let k = known (c .before .before) in
     sym (some-here (c .before .before .before .before .before .loop .i) (length (c .before .before .before .before .before .before .args .literals .now)) (negated-before (c .before .before .before .before .before .before .args .literals .now)) (omega arith) (step-opposite (c .before .before .before .before .before .before .args .literals .now) (c .before .before .before .before .before .loop .i) (c .before .before .before .before .before .loop .met) (c .before .before .before .before .before .loop .inv .1) (c .before .before .before .before .before .loop .inv .2) (k .low) (k .high) _ _ (k .is) (marked (c .before)) (c .if1 .taken)))
-
-mul-met : tie.Need-mul-met Inv-loop μ-loop
-mul-met c = let k = known (c .before .before) in omega (arith, k .is, k .high)
 
 array-write-met : tie.Need-array-write-met Inv-loop μ-loop
 array-write-met c = let k = known (c .before .before) in omega (arith, k .is, k .high)
@@ -103,4 +97,4 @@ returns-2 : tie.Need-returns-2 Inv-loop μ-loop
 returns-2 c = let ls = c .before .before .args .literals .now in let e : c .before .loop .i ≡ length ls = omega arith in sym (c .before .loop .inv .3) ∙ ap {A = ℕ} (λ k. some-below k (negated-before ls)) e
 
 pub both-signs-spec : {M : Type 1} → statement M
-both-signs-spec = tie.close (tie.spec Inv-loop μ-loop loop-holds mul-l shared-slice-copy-out-l size-requires mark-requires mul-before array-read-before sub-if1 returns mul-met array-write-met add-i loop-less loop-again returns-2)
+both-signs-spec = tie.close (tie.spec Inv-loop μ-loop loop-holds mul-l shared-slice-copy-out-l size-requires mark-requires array-read-before sub-if1 returns array-write-met add-i loop-less loop-again returns-2)
