@@ -17,3 +17,4 @@ pub mod Stored
 pub mod Turnings
 pub mod Results
 pub mod Unscanned
+pub mod Unspoken

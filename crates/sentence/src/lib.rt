@@ -1,5 +1,6 @@
 // The evaluation of one stored sentence over the stored values: its extremes, and what it says first.
 ghost use mathlib.Core.Path.{_≡_};
+ghost use mathlib.Core.Bool.{true};
 ghost use Prim.Native.Nat.{_≤_, _<_};
 ghost use Rattle.numbers.specs.Words.{half, top};
 ghost use Rattle.area.specs.Layout.{value-at, entry-words};
@@ -263,6 +264,41 @@ pub fn look(area: &[u64], n: usize, count: usize, base: usize, least: u64, great
         return of_body(area, kind, true, limit, greatest, least, start, merged, n);
     }
     of_body(area, kind, false, limit, least, greatest, start, merged, n)
+}
+
+// Whether the extremes alone show that the sentence has nothing to say: its head is open and the comparison too, or its head is fixed and
+// the comparison is sure to have its truth.
+pub fn settled(area: &[u64], n: usize, count: usize, base: usize, least: u64, greatest: u64) -> bool
+    requires { ⌜ Ready (now area) n count base ⌝ }
+    requires { ⌜ ExtremesAre (now area) n count base (record { least = least; greatest = greatest }) ⌝ }
+    ensures { λ r. ⌜ (r ≡ true → SaidIs (now (area .entry)) n count base Said.Silent) ⌝ }
+{
+    let head = area[base];
+    let tag = area[base + 1];
+    let bound = area[base + 2];
+    let upper = tag / 8 % 2 == 1;
+    let limit = if upper { bound + 1 } else { bound };
+    let v = area[n - 1 + head as usize];
+    let sure = limit <= least;
+    let possible = limit <= greatest;
+    if v == 0 {
+        if sure {
+            return false;
+        }
+        return possible;
+    }
+    let truth = v % 2 == 1;
+    let up = if upper { !truth } else { truth };
+    if up {
+        if sure {
+            return possible;
+        }
+        return false;
+    }
+    if sure {
+        return false;
+    }
+    !possible
 }
 
 // What that sentence says first, where its extremes are known.

@@ -25,6 +25,9 @@ fn matching(area: &[u64], n: usize, count: usize, base: usize) -> bool
     if area[base + 1] >= 16 {
         return true;
     }
+    if sentence::settled(area, n, count, base, least, greatest) {
+        return true;
+    }
     let said = sentence::says(area, n, count, base, least, greatest);
     match said {
         Said::Silent => true,
