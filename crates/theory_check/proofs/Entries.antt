@@ -17,7 +17,7 @@ use Rattle.theory_check.specs.Theory.{Stamps}
 use Rattle.theory_check.specs.Words.{stored-entry, factor, EntriesOk, Grown}
 use Rattle.theory_check.proofs.Listing.{product-grows}
 use Rattle.theory_check.proofs.Weights.{atom-half, one-from}
-use Rattle.theory_check.proofs.Stamping.{Stamped, none-stamped, met-before, one-stamped, all-apart}
+use Rattle.theory_check.proofs.Stamping.{Stamped, none-stamped, met-before, one-stamped}
 
 abbrev pub atom-at : List ℕ → ℕ → ℕ → ℕ
 atom-at w at k = word w (at + 2 * k + 1) / 2
@@ -61,7 +61,7 @@ module _ (w : List ℕ) (n b at old : ℕ) where
     product-next q = ap {A = ℕ} (λ x. x * factor w at i) (p .is q) ∙ sym (product-step i (factor w at))
 
     pub one-passed : (r : ℕ) → atom-at w at i < 4097 → word seen (atom-at w at i) ≤ old → EntryOk w n b at i
-        → Grown (tag-at w b % 8) product (word w (at + 2 * i)) r → ¬ (r ≡ 0) → Passed w n b at old (i + 1) (set seen (atom-at w at i) (old + 1 + i)) r
+        → Grown (tag-at w b % 8) product (word w (at + 2 * i)) r → ¬ (r ≡ 0) → Passed w n b at old (i + 1) (set seen (atom-at w at i) (old + 1)) r
     one-passed r a f e g z = record {
       whole = below-more (EntryOk w n b at) i (p .whole) e;
       stamped = one-stamped (atom-at w at) old i seen (p .stamped) a f;
@@ -84,7 +84,7 @@ module _ (w : List ℕ) (n b at old : ℕ) where
   pub all-passed : (i : ℕ) (seen : List ℕ) (product : ℕ) → Passed w n b at old i seen product → i ≡ merged-at w b → EntriesOk w n b at
   all-passed i seen product p e = record {
     each = λ k l. p .whole k (omega arith);
-    once = λ j k l m q. all-apart (atom-at w at) old i seen (p .stamped) j k (omega arith) (omega arith)
+    once = λ j k l m q. p .stamped .apart j k (omega arith) (omega arith)
         (sym (atom-half (word w (at + 2 * j + 1))) ∙ q ∙ atom-half (word w (at + 2 * k + 1)));
     product = λ q. omega (arith, p .is q, p .high, ap {A = ℕ} (λ m. product-below m (factor w at)) e);
   }

@@ -1,5 +1,5 @@
--- Stamps: those up to `old` are of other sentences, and entry k of this one is stamped old + 1 + k. So an atom met before in this
--- sentence has a stamp above `old`, and equal atoms have equal stamps, hence equal numbers.
+-- Stamps: those up to `old` are of other sentences, and each entry of this one is stamped old + 1. So an atom met before in this
+-- sentence has a stamp above `old`, and an atom whose stamp is not above `old` is apart from those before it.
 -- Assumes nothing.
 use mathlib.Core.Path.{_≡_, refl, sym, ap, _∙_, subst}
 use mathlib.Core.List.{List}
@@ -15,12 +15,13 @@ use lib.Seq.{getD-set-same, getD-set-other}
 use Rattle.area.specs.Layout.{word}
 use Rattle.theory_check.specs.Theory.{Stamps}
 
--- the first i entries, with the atoms f 0, .., f (i - 1), are stamped
+-- the first i entries, with the atoms f 0, .., f (i - 1), are apart and stamped
 pub record Stamped (f : ℕ → ℕ) (old i : ℕ) (seen : List ℕ) : Type 0 where
   pub size : length seen ≡ 4097
-  pub forth : (k : ℕ) → k < i → word seen (f k) ≡ old + 1 + k
+  pub apart : (j k : ℕ) → j < i → k < i → f j ≡ f k → j ≡ k
+  pub forth : (k : ℕ) → k < i → word seen (f k) ≡ old + 1
   pub back : (a : ℕ) → a < 4097 → old < word seen a → (k : ℕ) × (k < i) × (f k ≡ a)
-  pub upto : (a : ℕ) → a < 4097 → word seen a ≤ old + i
+  pub upto : (a : ℕ) → a < 4097 → word seen a ≤ old + 1
 
 same-or {ℓ} : {P : Type ℓ} (i k : ℕ) → (i ≡ k → P) → ((i ≡ k → ⊥) → P) → P
 same-or {P = P} i k here other = by (eqb i k) refl
@@ -32,6 +33,7 @@ same-or {P = P} i k here other = by (eqb i k) refl
 pub none-stamped : (f : ℕ → ℕ) (old : ℕ) (seen : List ℕ) → Stamps seen old → Stamped f old 0 seen
 none-stamped f old seen s = record {
   size = s .size;
+  apart = λ j k l m e. absurd (omega arith);
   forth = λ k l. absurd (omega arith);
   back = λ a l h. absurd (omega (arith, s .upto a l));
   upto = λ a l. omega (arith, s .upto a l);
@@ -44,29 +46,41 @@ module _ (f : ℕ → ℕ) (old i : ℕ) (seen : List ℕ) (s : Stamped f old i 
       let k = s .back (f i) low h in
       let e = o (k .0) i (omega (arith, k .1)) l (k .2) in omega (arith, k .1)
 
-  here : word (set seen (f i) (old + 1 + i)) (f i) ≡ old + 1 + i
-  here = getD-set-same seen (f i) (old + 1 + i) 0 (omega (arith, s .size))
+  here : word (set seen (f i) (old + 1)) (f i) ≡ old + 1
+  here = getD-set-same seen (f i) (old + 1) 0 (omega (arith, s .size))
 
-  pub one-stamped : word seen (f i) ≤ old → Stamped f old (i + 1) (set seen (f i) (old + 1 + i))
-  one-stamped fresh = record {
-    size = length-set seen (f i) (old + 1 + i) ∙ s .size;
-    forth = λ k l. ⊎-elim
-        (λ (e : k ≡ i). ap {A = ℕ} (λ j. word (set seen (f i) (old + 1 + i)) (f j)) e ∙ here ∙ ap {A = ℕ} (λ j. old + 1 + j) (sym e))
-        (λ (m : k < i). getD-set-other seen (f i) (f k) (old + 1 + i) 0 (λ e. omega (arith, s .forth k m, ap {A = ℕ} (λ j. word seen j) e)) ∙ s .forth k m)
-        (eq-or-lt-of-le (omega arith));
-    back = λ a l h. same-or a (f i) (λ e. (i, omega arith, sym e)) (λ d.
-        let o = s .back a l (subst (λ (x : ℕ). old < x) (getD-set-other seen (f i) a (old + 1 + i) 0 d) h) in
-        (o .0, omega (arith, o .1), o .2));
-    upto = λ a l. same-or a (f i)
-        (λ e. omega (arith, here, ap {A = ℕ} (λ j. word (set seen (f i) (old + 1 + i)) j) e))
-        (λ d. omega (arith, getD-set-other seen (f i) a (old + 1 + i) 0 d, s .upto a l));
-  }
+  module _ (fresh : word seen (f i) ≤ old) where
+    -- an earlier entry has another atom
+    other : (k : ℕ) → k < i → f k ≡ f i → ⊥
+    other k l e = omega (arith, s .forth k l, ap {A = ℕ} (λ j. word seen j) e)
 
-pub all-apart : (f : ℕ → ℕ) (old i : ℕ) (seen : List ℕ) → Stamped f old i seen → (j k : ℕ) → j < i → k < i → f j ≡ f k → j ≡ k
-all-apart f old i seen s j k h l e = omega (arith, s .forth j h, s .forth k l, ap {A = ℕ} (λ b. word seen b) e)
+    pub one-stamped : Stamped f old (i + 1) (set seen (f i) (old + 1))
+    one-stamped = record {
+      size = length-set seen (f i) (old + 1) ∙ s .size;
+      apart = λ j k l m e. ⊎-elim
+          (λ (p : j ≡ i). ⊎-elim
+          (λ (q : k ≡ i). p ∙ sym q)
+          (λ (q : k < i). absurd (other k q (sym e ∙ ap {A = ℕ} f p)))
+          (eq-or-lt-of-le (omega arith)))
+          (λ (p : j < i). ⊎-elim
+          (λ (q : k ≡ i). absurd (other j p (e ∙ ap {A = ℕ} f q)))
+          (λ (q : k < i). s .apart j k p q e)
+          (eq-or-lt-of-le (omega arith)))
+          (eq-or-lt-of-le (omega arith));
+      forth = λ k l. ⊎-elim
+          (λ (e : k ≡ i). ap {A = ℕ} (λ j. word (set seen (f i) (old + 1)) (f j)) e ∙ here)
+          (λ (m : k < i). getD-set-other seen (f i) (f k) (old + 1) 0 (other k m) ∙ s .forth k m)
+          (eq-or-lt-of-le (omega arith));
+      back = λ a l h. same-or a (f i) (λ e. (i, omega arith, sym e)) (λ d.
+          let o = s .back a l (subst (λ (x : ℕ). old < x) (getD-set-other seen (f i) a (old + 1) 0 d) h) in
+          (o .0, omega (arith, o .1), o .2));
+      upto = λ a l. same-or a (f i)
+          (λ e. omega (arith, here, ap {A = ℕ} (λ j. word (set seen (f i) (old + 1)) j) e))
+          (λ d. omega (arith, getD-set-other seen (f i) a (old + 1) 0 d, s .upto a l));
+    }
 
-pub stamps-upto : (f : ℕ → ℕ) (old i n : ℕ) (seen : List ℕ) → Stamped f old i seen → i ≤ n → Stamps seen (old + n)
-stamps-upto f old i n seen s b = record { size = s .size; upto = λ a l. omega (arith, s .upto a l) }
+pub stamps-upto : (f : ℕ → ℕ) (old i : ℕ) (seen : List ℕ) → Stamped f old i seen → Stamps seen (old + 1)
+stamps-upto f old i seen s = record { size = s .size; upto = s .upto }
 
 pub stamps-more : (seen : List ℕ) (a b : ℕ) → Stamps seen a → a ≤ b → Stamps seen b
 stamps-more seen a b s h = record { size = s .size; upto = λ k l. omega (arith, s .upto k l) }

@@ -50,11 +50,11 @@ pub record Checkable (lim : Limits) (w : List ℕ) (n S b : ℕ) (seen : List �
   pub merged : merged-at w b ≤ written-at w b
   pub room : entry-at w n S b + 2 * written-at w b ≤ length w
   pub stamps : Stamps seen old
-  pub stamps-high : old + written-at w b ≤ 16384
+  pub stamps-high : old ≤ 1024
 
 pub record Checked (lim : Limits) (w : List ℕ) (n S b : ℕ) (seen : List ℕ) (old : ℕ) (r : Bool) : Type 0 where
   pub tells : Tells r (SentenceOk lim w n S b)
-  pub stamps : Stamps seen (old + written-at w b)
+  pub stamps : Stamps seen (old + 1)
 
 -- ---- the reasons of the first len rows
 

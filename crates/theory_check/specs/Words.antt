@@ -62,12 +62,12 @@ pub record EntriesAsked (w : List ℕ) (n b at : ℕ) (seen : List ℕ) (old : �
   pub merged : merged-at w b ≤ 4096
   pub room : at + 2 * merged-at w b ≤ length w
   pub stamps : Stamps seen old
-  pub stamps-high : old ≤ 16384
+  pub stamps-high : old ≤ 1024
 
 -- and what it tells and leaves
 pub record EntriesTold (w : List ℕ) (n b at : ℕ) (seen : List ℕ) (old : ℕ) (r : Bool) : Type 0 where
   pub tells : Tells r (EntriesOk w n b at)
-  pub stamps : Stamps seen (old + merged-at w b)
+  pub stamps : Stamps seen (old + 1)
 
 -- r is a product with one weight more, or 0 where that passes 10^18; the other kinds have no product
 pub record Grown (kind product weight r : ℕ) : Type 0 where

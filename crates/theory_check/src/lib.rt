@@ -1,12 +1,12 @@
 // The check of the stored theory: places, the words of one sentence, and the reasons of the trail.
 use types::Limits;
 ghost use mathlib.Core.Path.{_≡_};
-ghost use Prim.Native.Nat.{ℕ, _+_, _*_, _<_, _≤_};
+ghost use Prim.Native.Nat.{ℕ, _+_, _*_, _%_, _<_, _≤_};
 ghost use lib.ListN.{length};
 ghost use Rattle.types.specs.Limits.{Fitting};
 ghost use Rattle.decide.specs.Tells.{Tells};
 ghost use Rattle.numbers.specs.Words.{half, unbias};
-ghost use Rattle.area.specs.Layout.{word, written-at, kind-of};
+ghost use Rattle.area.specs.Layout.{word, tag-at, written-at, kind-of};
 ghost use Rattle.area.specs.Whole.{Near, Added, Multiplied, WeightWhole, EntryWhole, Reasoned};
 ghost use Rattle.theory_check.specs.Theory.{PlacesOk, Checkable, Checked, Reasonable};
 ghost use Rattle.theory_check.specs.Words.{entry-of, ConstantOk, RecordOk, EntriesAsked, EntriesTold, Grown, ScopeAsked, HasAtom};
@@ -141,12 +141,20 @@ fn grown(kind: u64, product: u64, weight: u64) -> u64
 }
 
 // The merged entries of the sentence at `base`, which start at `at`. An atom met in this sentence has a stamp above `old`.
-fn entries_ok(area: &[u64], n: u64, base: usize, at: usize, seen: &mut [u64], old: u64) -> bool
-    requires { ⌜ EntriesAsked (now area) n base at (now seen) old ⌝ }
+fn entries_ok(
+    area: &[u64],
+    n: u64,
+    base: usize,
+    at: usize,
+    kind: u64,
+    seen: &mut [u16],
+    old: u16,
+) -> bool
+    requires { ⌜ EntriesAsked (now area) n base at (now seen) old × (kind ≡ tag-at (now area) base % 8) ⌝ }
     ensures { λ r. ⌜ EntriesTold (now (area .entry)) n base at (now (seen .exit)) old r ⌝ }
 {
+    let stamp = old + 1;
     let head = area[base];
-    let kind = area[base + 1] % 8;
     let counts = area[base + 7];
     let written = counts % 65536;
     let merged = (counts / 65536) as usize;
@@ -162,7 +170,7 @@ fn entries_ok(area: &[u64], n: u64, base: usize, at: usize, seen: &mut [u64], ol
         if seen[a] > old {
             return false;
         }
-        seen[a] = old + 1 + i as u64;
+        seen[a] = stamp;
         product = grown(kind, product, weight);
         if product == 0 {
             return false;
@@ -170,6 +178,20 @@ fn entries_ok(area: &[u64], n: u64, base: usize, at: usize, seen: &mut [u64], ol
         i += 1;
     }
     true
+}
+
+// The same loop for each kind, so that in the loop the kind is no question.
+fn entries_by_kind(area: &[u64], n: u64, base: usize, at: usize, seen: &mut [u16], old: u16) -> bool
+    requires { ⌜ EntriesAsked (now area) n base at (now seen) old ⌝ }
+    ensures { λ r. ⌜ EntriesTold (now (area .entry)) n base at (now (seen .exit)) old r ⌝ }
+{
+    match area[base + 1] % 8 {
+        0 => entries_ok(area, n, base, at, 0, seen, old),
+        1 => entries_ok(area, n, base, at, 1, seen, old),
+        2 => entries_ok(area, n, base, at, 2, seen, old),
+        3 => entries_ok(area, n, base, at, 3, seen, old),
+        _ => entries_ok(area, n, base, at, 4, seen, old),
+    }
 }
 
 fn constant_ok(kind: u64, written: u64, constant: u64) -> bool
@@ -233,8 +255,8 @@ pub fn sentence_ok(
     n: usize,
     count: usize,
     base: usize,
-    seen: &mut [u64],
-    old: u64,
+    seen: &mut [u16],
+    old: u16,
 ) -> bool
     requires { ⌜ Checkable lim (now area) n count base (now seen) old ⌝ }
     ensures { λ r. ⌜ Checked lim (now (area .entry)) n count base (now (seen .exit)) old r ⌝ }
@@ -243,7 +265,7 @@ pub fn sentence_ok(
         return false;
     }
     let at = 4 * n + 8 * count + 2 * area[base + 6] as usize;
-    if !entries_ok(area, n as u64, base, at, seen, old) {
+    if !entries_by_kind(area, n as u64, base, at, seen, old) {
         return false;
     }
     let counts = area[base + 7];

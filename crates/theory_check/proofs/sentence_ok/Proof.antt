@@ -43,8 +43,8 @@ mul-at-4 c = search needs
 add-at-3 : tie.Need-add-at-3
 add-at-3 c = search needs
 
-entries-ok-requires : tie.Need-entries-ok-requires
-entries-ok-requires c κs = let s = c .before .before .before .before .before .before in
+entries-by-kind-requires : tie.Need-entries-by-kind-requires
+entries-by-kind-requires c κs = let s = c .before .before .before .before .before .before in
     record {
       atoms = omega (arith, s .pre .atoms-high, s .pre .fitting .atoms);
       own = s .pre .own;
@@ -53,7 +53,7 @@ entries-ok-requires c κs = let s = c .before .before .before .before .before .b
       merged = omega (arith, s .pre .few, s .pre .merged, s .pre .fitting .each);
       room = omega (arith, s .pre .room, s .pre .merged);
       stamps = s .pre .stamps;
-      stamps-high = omega (arith, s .pre .stamps-high);
+      stamps-high = s .pre .stamps-high;
     }
 
 same-length : tie.Need-same-length
@@ -62,9 +62,9 @@ same-length c = search needs
 returns-2 : tie.Need-returns-2
 returns-2 c = let s = c .before .before .before .before .before .before .before .before .before .before in
     record {
-      tells = told-no (λ h. denied (c .before .before .before .entries-ok .ensures .tells) (c .if2 .taken)
+      tells = told-no (λ h. denied (c .before .before .before .entries-by-kind .ensures .tells) (c .if2 .taken)
           (own-entries (s .args .lim) (s .args .area .now) (s .args .n) (s .args .count) (s .args .base) (omega (arith, s .pre .room, s .pre .merged)) h));
-      stamps = stamps-more _ _ _ (c .before .before .before .entries-ok .ensures .stamps) (omega (arith, s .pre .merged));
+      stamps = c .before .before .before .entries-by-kind .ensures .stamps;
     }
 
 add-counts : tie.Need-add-counts
@@ -99,7 +99,7 @@ returns-3 c = let s = c .before .before .before .before .before .before .before 
     record {
       tells = told-no (λ h. denied (c .before .blank .ensures) (c .if3 .taken)
           (own-rest (s .args .lim) (s .args .area .now) (s .args .n) (s .args .count) (s .args .base) (omega (arith, s .pre .room, s .pre .merged)) h));
-      stamps = stamps-more _ _ _ (c .before .before .before .before .before .before .entries-ok .ensures .stamps) (omega (arith, s .pre .merged));
+      stamps = c .before .before .before .before .before .before .entries-by-kind .ensures .stamps;
     }
 
 same-length-3 : tie.Need-same-length-3
@@ -111,9 +111,9 @@ returns-4 c = let s = c .before .before .before .before .before .before .before 
       tells = told-yes (sentence-from (s .args .lim) (s .args .area .now) (s .args .n) (s .args .count) (s .args .base) (omega (arith, s .pre .room, s .pre .merged))
           (s .pre .few)
           (granted (c .before .before .before .before .before .before .before .before .before .before .record-ok .ensures) (c .before .before .before .before .before .before .before .before .before .if1 .left))
-          (granted (c .before .before .before .before .before .before .entries-ok .ensures .tells) (c .before .before .before .if2 .left))
+          (granted (c .before .before .before .before .before .before .entries-by-kind .ensures .tells) (c .before .before .before .if2 .left))
           (granted (c .before .blank .ensures) (c .if3 .left)));
-      stamps = stamps-more _ _ _ (c .before .before .before .before .before .before .entries-ok .ensures .stamps) (omega (arith, s .pre .merged));
+      stamps = c .before .before .before .before .before .before .entries-by-kind .ensures .stamps;
     }
 
 pub sentence-ok-spec : {M : Type 1} → statement M
@@ -130,7 +130,7 @@ sentence-ok-spec =
     shared-slice-read-at
     mul-at-4
     add-at-3
-    entries-ok-requires
+    entries-by-kind-requires
     same-length
     returns-2
     add-counts
