@@ -1,7 +1,7 @@
 -- The check of the sentences, sentence by sentence: those passed are right over every trail that the values show, and no stamp is above
--- the number of their entries. A sentence whose places and words are right can be evaluated.
+-- their number. A sentence whose places and words are right can be evaluated.
 -- Assumes nothing.
-use mathlib.Core.Path.{_≡_, refl, sym, subst}
+use mathlib.Core.Path.{_≡_, refl}
 use mathlib.Core.Bool.{Bool, true, false, not}
 use mathlib.Core.List.{List}
 use Prim.Native.Nat.{ℕ, _+_, _<_, _≤_}
@@ -11,7 +11,7 @@ use lib.ListN.{length, replicate}
 use borrow.Author.Count.{below-more, below-none}
 use Rattle.types.specs.declared.Limits.{Limits}
 use Rattle.decide.proofs.Tells.{told-yes, told-no, denied, granted}
-use Rattle.area.specs.Layout.{record-at, before-at, written-at, entries-before}
+use Rattle.area.specs.Layout.{record-at}
 use Rattle.sentence.specs.Sentence.{Shows, Ready}
 use Rattle.theory_check.specs.Theory.{SentenceOk, Stamps, Checkable}
 use Rattle.theory_check.proofs.Places.{placed}
@@ -22,18 +22,18 @@ use Rattle.whole.specs.Check.{SentencesAsked, TellsOver, RightBelow}
 -- the first s sentences are passed
 pub record Passed (lim : Limits) (w : List ℕ) (n S s : ℕ) (seen : List ℕ) : Type 0 where
   pub few : s ≤ S
-  pub stamps : Stamps seen (entries-before w n s)
+  pub stamps : Stamps seen s
   pub right : (t : List ℤ) → Shows w n t → RightBelow lim w n S s t
 
 module _ {lim : Limits} {w : List ℕ} {n S : ℕ} (asked : SentencesAsked lim w n S) where
   pub none-passed : Passed lim w n S 0 (replicate 4097 0)
-  none-passed = record { few = omega arith; stamps = zero-stamps 4097 (entries-before w n 0) refl; right = λ t _. below-none (λ s. SentenceRight lim w n S (record-at n s) t) }
+  none-passed = record { few = omega arith; stamps = zero-stamps 4097 0 refl; right = λ t _. below-none (λ s. SentenceRight lim w n S (record-at n s) t) }
 
   module _ (s : ℕ) (l : s < S) where
     pub inside : record-at n s + 8 ≤ length w
     inside = placed lim w n S s (asked .places) l .own
 
-    pub checkable : (seen : List ℕ) → Stamps seen (entries-before w n s) → Checkable lim w n S (record-at n s) seen (before-at w (record-at n s))
+    pub checkable : (seen : List ℕ) → Stamps seen s → Checkable lim w n S (record-at n s) seen s
     checkable seen stamps =
         let p = placed lim w n S s (asked .places) l in
         record {
@@ -45,8 +45,8 @@ module _ {lim : Limits} {w : List ℕ} {n S : ℕ} (asked : SentencesAsked lim w
           few = p .few;
           merged = p .merged;
           room = p .room;
-          stamps = subst (Stamps seen) (sym (asked .places .each s l .place)) stamps;
-          stamps-high = omega (arith, p .entries, asked .fitting .entries);
+          stamps = stamps;
+          stamps-high = omega (arith, asked .sentences, asked .fitting .sentences);
         }
 
     pub ready : SentenceOk lim w n S (record-at n s) → Ready w n S (record-at n s)
@@ -73,11 +73,11 @@ module _ {lim : Limits} {w : List ℕ} {n S : ℕ} (asked : SentencesAsked lim w
     pub matching-wrong : {r : Bool} → TellsOver w n r (Matching w n S (record-at n s)) → not r ≡ true → TellsOver w n false (RightBelow lim w n S S)
     matching-wrong m e t shown = told-no (λ h. denied (m t shown) e (h s l .matching))
 
-    pub one-passed : {r : Bool} (seen after : List ℕ) → Passed lim w n S s seen → Stamps after (before-at w (record-at n s) + written-at w (record-at n s))
+    pub one-passed : {r : Bool} (seen after : List ℕ) → Passed lim w n S s seen → Stamps after (s + 1)
         → SentenceOk lim w n S (record-at n s) → TellsOver w n r (Matching w n S (record-at n s)) → not r ≡ false → Passed lim w n S (s + 1) after
     one-passed seen after p stamps ok m e = record {
       few = omega arith;
-      stamps = subst (Stamps after) (placed lim w n S s (asked .places) l .next) stamps;
+      stamps = stamps;
       right = λ t shown. below-more (λ k. SentenceRight lim w n S (record-at n k) t) s (p .right t shown) (record { words = ok; matching = granted (m t shown) e });
     }
 

@@ -36,17 +36,16 @@ fn matching(area: &[u64], n: usize, count: usize, base: usize) -> bool
     }
 }
 
-// The sentences. An atom met in one has a stamp above the number of entries before it, so that one table serves all.
+// The sentences. An atom met in one has a stamp above the number of sentences before it, so that one table serves all.
 fn sentences_ok(area: &[u64], lim: Limits, n: usize, count: usize) -> bool
     requires { ⌜ SentencesAsked lim (now area) n count ⌝ }
     ensures { λ r. ⌜ TellsOver (now (area .entry)) n r (RightBelow lim (now (area .entry)) n count count) ⌝ }
 {
-    let mut seen = [0u64; 4097];
+    let mut seen = [0u16; 4097];
     let mut s = 0;
     while s < count {
         let base = 4 * n + 8 * s;
-        let old = area[base + 6];
-        if !theory_check::sentence_ok(area, lim, n, count, base, &mut seen, old) {
+        if !theory_check::sentence_ok(area, lim, n, count, base, &mut seen, s as u16) {
             return false;
         }
         if !matching(area, n, count, base) {

@@ -1,4 +1,4 @@
--- The sentences passed are right over every trail that the values show, and the stamps are of their entries (`Passed`).
+-- The sentences passed are right over every trail that the values show, and no stamp is above their number (`Passed`).
 -- Assumes nothing.
 use mathlib.Core.Path.{sym}
 use Prim.Native.Nat.{_+_, _-_, _≤_}
@@ -33,29 +33,23 @@ mul-base-2 c = omega (arith, own-inside c)
 add-base : tie.Need-add-base Inv-loop μ-loop
 add-base c = omega (arith, own-inside c)
 
-add-old : tie.Need-add-old Inv-loop μ-loop
-add-old c = omega (arith, own-inside c)
-
-mul-old : tie.Need-mul-old Inv-loop μ-loop
-mul-old c = omega (arith, own-inside c)
-
-shared-slice-read-old : tie.Need-shared-slice-read-old Inv-loop μ-loop
-shared-slice-read-old c = omega (arith, own-inside (c .before))
-
 slice-aggregate-sentence-ok : tie.Need-slice-aggregate-sentence-ok Inv-loop μ-loop
-slice-aggregate-sentence-ok c = sym (c .before .before .before .loop .inv .stamps .size)
+slice-aggregate-sentence-ok c = sym (c .before .before .loop .inv .stamps .size)
+
+cast-sentence-ok : tie.Need-cast-sentence-ok Inv-loop μ-loop
+cast-sentence-ok c = search needs
 
 sentence-ok-requires : tie.Need-sentence-ok-requires Inv-loop μ-loop
-sentence-ok-requires c κs = checkable (c .before .before .before .before .before .pre) (c .before .before .before .loop .s) (c .before .before .loop-test .taken) _ (c .before .before .before .loop .inv .stamps)
+sentence-ok-requires c κs = checkable (c .before .before .before .before .pre) (c .before .before .loop .s) (c .before .loop-test .taken) _ (c .before .before .loop .inv .stamps)
 
 returns : tie.Need-returns Inv-loop μ-loop
-returns c = words-wrong (c .before .before .before .before .before .before .before .before .pre) (c .before .before .before .before .before .before .loop .s) (c .before .before .before .before .before .loop-test .taken) (denied (c .before .before .sentence-ok .ensures .tells) (c .if1 .taken))
+returns c = words-wrong (c .before .before .before .before .before .before .before .pre) (c .before .before .before .before .before .loop .s) (c .before .before .before .before .loop-test .taken) (denied (c .before .before .sentence-ok .ensures .tells) (c .if1 .taken))
 
 matching-requires : tie.Need-matching-requires Inv-loop μ-loop
-matching-requires c κs = ready (c .before .before .before .before .before .before .before .before .pre) (c .before .before .before .before .before .before .loop .s) (c .before .before .before .before .before .loop-test .taken) (granted (c .before .before .sentence-ok .ensures .tells) (c .if1 .left))
+matching-requires c κs = ready (c .before .before .before .before .before .before .before .pre) (c .before .before .before .before .before .loop .s) (c .before .before .before .before .loop-test .taken) (granted (c .before .before .sentence-ok .ensures .tells) (c .if1 .left))
 
 returns-2 : tie.Need-returns-2 Inv-loop μ-loop
-returns-2 c = matching-wrong (c .before .before .before .before .before .before .before .before .before .before .pre) (c .before .before .before .before .before .before .before .before .loop .s) (c .before .before .before .before .before .before .before .loop-test .taken) (c .before .matching .ensures) (c .if2 .taken)
+returns-2 c = matching-wrong (c .before .before .before .before .before .before .before .before .before .pre) (c .before .before .before .before .before .before .before .loop .s) (c .before .before .before .before .before .before .loop-test .taken) (c .before .matching .ensures) (c .if2 .taken)
 
 add-s : tie.Need-add-s Inv-loop μ-loop
 add-s c = search needs
@@ -64,7 +58,7 @@ loop-less : tie.Need-loop-less Inv-loop μ-loop
 loop-less c = search needs
 
 loop-again : tie.Need-loop-again Inv-loop μ-loop
-loop-again c = one-passed (c .before .before .before .before .before .before .before .before .before .before .pre) (c .before .before .before .before .before .before .before .before .loop .s) (c .before .before .before .before .before .before .before .loop-test .taken) _ _ (c .before .before .before .before .before .before .before .before .loop .inv) (c .before .before .before .before .sentence-ok .ensures .stamps) (granted (c .before .before .before .before .sentence-ok .ensures .tells) (c .before .before .if1 .left)) (c .before .matching .ensures) (c .if2 .left)
+loop-again c = one-passed (c .before .before .before .before .before .before .before .before .before .pre) (c .before .before .before .before .before .before .before .loop .s) (c .before .before .before .before .before .before .loop-test .taken) _ _ (c .before .before .before .before .before .before .before .loop .inv) (c .before .before .before .before .sentence-ok .ensures .stamps) (granted (c .before .before .before .before .sentence-ok .ensures .tells) (c .before .before .if1 .left)) (c .before .matching .ensures) (c .if2 .left)
 
 returns-3 : tie.Need-returns-3 Inv-loop μ-loop
 returns-3 c = all-passed (c .before .before .before .pre) (c .before .loop .s) _ (c .before .loop .inv) (omega arith)
@@ -79,10 +73,8 @@ sentences-ok-spec =
     mul-base
     mul-base-2
     add-base
-    add-old
-    mul-old
-    shared-slice-read-old
     slice-aggregate-sentence-ok
+    cast-sentence-ok
     sentence-ok-requires
     returns
     matching-requires
