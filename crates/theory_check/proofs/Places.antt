@@ -7,7 +7,7 @@ use native.Mathlib.Omega.{arith}
 use native.Mathlib.Numerals.{add-one}
 use lib.ListN.{length}
 use Rattle.types.specs.declared.Limits.{Limits}
-use Rattle.area.specs.Layout.{record-at, before-at, written-at, merged-at, entry-at, entries-before}
+use Rattle.area.specs.Layout.{record-at, written-at, merged-at, entry-at, entries-before}
 use Rattle.theory_check.specs.Theory.{PlacesOk, Reasonable}
 use Rattle.theory_check.specs.Words.{ScopeAsked}
 
@@ -31,8 +31,6 @@ pub record Placed (lim : Limits) (w : List ℕ) (n S s : ℕ) : Type 0 where
   pub few : written-at w (record-at n s) ≤ lim .each
   pub merged : merged-at w (record-at n s) ≤ written-at w (record-at n s)
   pub room : entry-at w n S (record-at n s) + 2 * written-at w (record-at n s) ≤ length w
-  pub entries : before-at w (record-at n s) + written-at w (record-at n s) ≤ lim .entries
-  pub next : before-at w (record-at n s) + written-at w (record-at n s) ≡ entries-before w n (s + 1)
 
 pub placed : (lim : Limits) (w : List ℕ) (n S s : ℕ) → PlacesOk lim w n S → s < S → Placed lim w n S s
 placed lim w n S s p l =
@@ -46,8 +44,6 @@ placed lim w n S s p l =
       few = q .few;
       merged = q .merged;
       room = omega (arith, q .place, p .room);
-      entries = omega (arith, q .place, p .entries);
-      next = omega (arith, q .place);
     }
 
 pub reason-inside : (lim : Limits) (w : List ℕ) (n S len r : ℕ) → Reasonable lim w n S len → ¬ (r ≡ 0) → r ≤ S → ScopeAsked w n S (4 * n + 8 * (r - 1))

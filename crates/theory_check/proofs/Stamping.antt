@@ -54,19 +54,15 @@ module _ (f : ℕ → ℕ) (old i : ℕ) (seen : List ℕ) (s : Stamped f old i 
     other : (k : ℕ) → k < i → f k ≡ f i → ⊥
     other k l e = omega (arith, s .forth k l, ap {A = ℕ} (λ j. word seen j) e)
 
+    all-apart : (j k : ℕ) → j < i + 1 → k < i + 1 → f j ≡ f k → j ≡ k
+    all-apart j k l m e = same-or j i
+        (λ p. same-or k i (λ q. p ∙ sym q) (λ d. absurd (other k (omega arith) (sym e ∙ ap {A = ℕ} f p))))
+        (λ d. same-or k i (λ q. absurd (other j (omega arith) (e ∙ ap {A = ℕ} f q))) (λ c. s .apart j k (omega arith) (omega arith) e))
+
     pub one-stamped : Stamped f old (i + 1) (set seen (f i) (old + 1))
     one-stamped = record {
       size = length-set seen (f i) (old + 1) ∙ s .size;
-      apart = λ j k l m e. ⊎-elim
-          (λ (p : j ≡ i). ⊎-elim
-          (λ (q : k ≡ i). p ∙ sym q)
-          (λ (q : k < i). absurd (other k q (sym e ∙ ap {A = ℕ} f p)))
-          (eq-or-lt-of-le (omega arith)))
-          (λ (p : j < i). ⊎-elim
-          (λ (q : k ≡ i). absurd (other j p (e ∙ ap {A = ℕ} f q)))
-          (λ (q : k < i). s .apart j k p q e)
-          (eq-or-lt-of-le (omega arith)))
-          (eq-or-lt-of-le (omega arith));
+      apart = all-apart;
       forth = λ k l. ⊎-elim
           (λ (e : k ≡ i). ap {A = ℕ} (λ j. word (set seen (f i) (old + 1)) (f j)) e ∙ here)
           (λ (m : k < i). getD-set-other seen (f i) (f k) (old + 1) 0 (other k m) ∙ s .forth k m)
