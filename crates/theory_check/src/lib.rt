@@ -20,6 +20,9 @@ const WEIGHT: u64 = 1_000_000_000;
 // The largest size of a bound, and of a product.
 const BOUND: u64 = 1_000_000_000_000_000_000;
 
+// A factor with which no product up to the bound wraps. At most 14 factors of a product up to the bound are larger.
+const SMALL: u64 = 18;
+
 // Each sentence's entries stand behind those before it, and there is room for all.
 pub fn places_ok(area: &[u64], lim: Limits, n: usize, count: usize) -> bool
     requires { ⌜ Fitting lim × (n ≤ lim .atoms) × (count ≤ lim .sentences) × (4 * n + 8 * count ≤ length (now area)) ⌝ }
@@ -134,6 +137,13 @@ fn grown(kind: u64, product: u64, weight: u64) -> u64
         return product;
     }
     let factor = weight - HALF;
+    if factor <= SMALL {
+        let next = product * factor;
+        if next > BOUND {
+            return 0;
+        }
+        return next;
+    }
     if product > BOUND / factor {
         return 0;
     }
