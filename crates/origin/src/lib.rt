@@ -16,7 +16,7 @@ ghost use Rattle.origin.specs.Marks.{Markable, Named, Step, Reached, Add
 ghost use Rattle.origin.specs.Origin.{Choosable, chosen, chosen-literals, in-front, OriginsAsked, Blank, origins-at, Choice, Handed};
 
 // Marks the positions before `limit` whose literals sentence s, counted from 0, names as causes.
-fn mark_causes(area: &[u64], n: usize, count: usize, s: usize, limit: usize, marks: &mut [u64])
+fn mark_causes(area: &[u64], n: usize, count: usize, s: usize, limit: usize, marks: &mut [u8])
     requires { ⌜ Markable (now area) n count limit (now marks) × (s < count) ⌝ }
     ensures { λ _. ⌜ Adds (Named (now (area .entry)) n count s limit) (now (marks .entry)) (now (marks .exit)) ⌝ }
 {
@@ -33,7 +33,7 @@ fn mark_causes(area: &[u64], n: usize, count: usize, s: usize, limit: usize, mar
 }
 
 // Handles one position: where it is marked, its causes are.
-fn mark_one(area: &[u64], n: usize, count: usize, position: usize, marks: &mut [u64])
+fn mark_one(area: &[u64], n: usize, count: usize, position: usize, marks: &mut [u8])
     requires { ⌜ Markable (now area) n count position (now marks) ⌝ }
     ensures { λ _. ⌜ Adds (Step (now (area .entry)) n count (now (marks .entry)) position) (now (marks .entry)) (now (marks .exit)) ⌝ }
 {
@@ -48,7 +48,7 @@ fn mark_one(area: &[u64], n: usize, count: usize, position: usize, marks: &mut [
 }
 
 // Marks what the marked positions from `position` down rest on: handles one position, then calls itself on the one before.
-fn mark(area: &[u64], n: usize, count: usize, position: usize, marks: &mut [u64])
+fn mark(area: &[u64], n: usize, count: usize, position: usize, marks: &mut [u8])
     requires { ⌜ Markable (now area) n count position (now marks) ⌝ }
     ensures { λ _. ⌜ Adds (Reached (now (area .entry)) n count position (now (marks .entry))) (now (marks .entry)) (now (marks .exit)) ⌝ }
 {
@@ -71,7 +71,7 @@ fn literal_of(x: u64) -> i64
 }
 
 // Whether position i is marked and its literal was given.
-fn is_chosen(area: &[u64], n: usize, i: usize, marks: &[u64]) -> bool
+fn is_chosen(area: &[u64], n: usize, i: usize, marks: &[u8]) -> bool
     requires { ⌜ Choosable (now area) n (i + 1) (now marks) ⌝ }
     ensures { λ r. ⌜ r ≡ chosen (now (area .entry)) n (now (marks .entry)) i ⌝ }
 {
@@ -82,7 +82,7 @@ fn is_chosen(area: &[u64], n: usize, i: usize, marks: &[u64]) -> bool
 }
 
 // How many of the first rows those are.
-fn count_chosen(area: &[u64], n: usize, rows: usize, marks: &[u64]) -> usize
+fn count_chosen(area: &[u64], n: usize, rows: usize, marks: &[u8]) -> usize
     requires { ⌜ Choosable (now area) n rows (now marks) ⌝ }
     ensures { λ r. ⌜ r ≡ length (chosen-literals (now (area .entry)) n (now (marks .entry)) rows) ⌝ }
 {
@@ -98,7 +98,7 @@ fn count_chosen(area: &[u64], n: usize, rows: usize, marks: &[u64]) -> usize
 }
 
 // Their literals, at the front of the list; the rest of it keeps its contents.
-fn write_chosen(area: &[u64], n: usize, rows: usize, marks: &[u64], list: &mut [i64])
+fn write_chosen(area: &[u64], n: usize, rows: usize, marks: &[u8], list: &mut [i64])
     requires { ⌜ Choosable (now area) n rows (now marks) × (length (chosen-literals (now area) n (now marks) rows) ≤ length (now list)) ⌝ }
     ensures { λ _. ⌜ now (list .exit) ≡ in-front (chosen-literals (now (area .entry)) n (now (marks .entry)) rows) (now (list .entry)) ⌝ }
 {
@@ -114,7 +114,7 @@ fn write_chosen(area: &[u64], n: usize, rows: usize, marks: &[u64], list: &mut [
 }
 
 // Marks what the literal at a position rests on, in a table without marks, and counts the given literals among it.
-fn choose(area: &[u64], position: usize, marks: &mut [u64]) -> usize
+fn choose(area: &[u64], position: usize, marks: &mut [u8]) -> usize
     requires { ⌜ OriginsAsked (now area) position × Blank (now area) (now marks) ⌝ }
     ensures { λ r. ⌜ Choice (now (area .entry)) position (now (marks .exit)) r ⌝ }
 {
@@ -131,7 +131,7 @@ fn list_origins(area: &[u64], position: usize, list: &mut [i64]) -> Listed
     requires { ⌜ OriginsAsked (now area) position ⌝ }
     ensures { λ r. ⌜ Handed (origins-at (now (area .entry)) position) (now (list .entry)) (now (list .exit)) r ⌝ }
 {
-    let mut marks = [0u64; 4097];
+    let mut marks = [0u8; 4097];
     let needed = choose(area, position, &mut marks);
     let value = needed as u64;
     if list.len() < needed {

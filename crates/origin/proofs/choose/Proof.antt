@@ -16,12 +16,6 @@ shared-slice-read-count c = search needs
 shared-slice-read-rows : tie.Need-shared-slice-read-rows
 shared-slice-read-rows c = search needs
 
-mul-marks : tie.Need-mul-marks
-mul-marks c = let s = c .before .before .before .before .before in
-    let w = s .args .area .now in
-    let p = s .args .position in
-    let m = s .args .marks .now in omega (arith, inside w p (s .pre .0) m (s .pre .1))
-
 slice-write-marks : tie.Need-slice-write-marks
 slice-write-marks c = let s = c .before .before .before .before .before in
     let w = s .args .area .now in
@@ -59,7 +53,6 @@ choose-spec =
     shared-slice-read-n
     shared-slice-read-count
     shared-slice-read-rows
-    mul-marks
     slice-write-marks
     mark-requires
     count-chosen-requires

@@ -9,9 +9,6 @@ use borrow.Author.Needs.{needs}
 use Rattle.origin.proofs.is_chosen.Statement.{statement}
 use Rattle.origin.proofs.is_chosen.Tie as tie
 
-mul-if1 : tie.Need-mul-if1
-mul-if1 c = search needs
-
 shared-slice-read-if1 : tie.Need-shared-slice-read-if1
 shared-slice-read-if1 c = search needs
 
@@ -41,7 +38,6 @@ pub is-chosen-spec : {M : Type 1} → statement M
 is-chosen-spec =
     tie.close
     (tie.spec
-    mul-if1
     shared-slice-read-if1
     returns
     mul-result

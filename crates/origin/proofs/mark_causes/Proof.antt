@@ -50,9 +50,6 @@ cause-at-requires : tie.Need-cause-at-requires Inv-loop μ-loop
 cause-at-requires c κs = let s = c .before .before .before .before .before in let p = s .pre .0 in
     (record { sentence = ready s; rows = p .rows; trail-asked = p .trail-asked; few = omega (arith, p .position) }, omega arith)
 
-mul-marks : tie.Need-mul-marks Inv-loop μ-loop
-mul-marks c = omega arith
-
 slice-write-marks : tie.Need-slice-write-marks Inv-loop μ-loop
 slice-write-marks c = let q = c .before .before .before .before .before .before .before in
     let w = q .args .area .now in
@@ -111,7 +108,6 @@ mark-causes-spec =
     shared-slice-read-merged
     loop-holds
     cause-at-requires
-    mul-marks
     slice-write-marks
     add-place
     loop-less

@@ -5,9 +5,6 @@ use borrow.Author.Needs.{needs}
 use Rattle.origin.proofs.mark_one.Statement.{statement}
 use Rattle.origin.proofs.mark_one.Tie as tie
 
-mul-if1 : tie.Need-mul-if1
-mul-if1 c = search needs
-
 slice-read-if1 : tie.Need-slice-read-if1
 slice-read-if1 c = search needs
 
@@ -50,7 +47,6 @@ pub mark-one-spec : {M : Type 1} → statement M
 mark-one-spec =
     tie.close
     (tie.spec
-    mul-if1
     slice-read-if1
     returns
     mul-reason
