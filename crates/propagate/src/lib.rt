@@ -83,9 +83,10 @@ pub fn propagate_within(area: &mut [u64], lim: Limits, counters: Counters) -> Pr
     let count = (area[0] / 65536 % 65536) as usize;
     let end = run(area, n, count, len as usize, level.0);
     let length = end.length as u64;
+    let put = length - len;
     let next = Counters { length, level };
     if end.sentence == 0 {
-        return Propagated::Still(length - len, next);
+        return Propagated::Still(put, next);
     }
-    Propagated::Conflict(Sentence(end.sentence), length - len, next)
+    Propagated::Conflict(Sentence(end.sentence), put, next)
 }

@@ -40,17 +40,14 @@ stopped : (c : tie.After-run) → Stopped (c .before .before .before .before .be
 stopped c = let s = c .before .before .before .before .before .before .before .before .before in
     c .run .ensures (s .args .lim) (record { fitting = s .pre; whole = whole (c .before .before .before .before); atoms = refl; sentences = refl })
 
-sub-t23 : tie.Need-sub-t23
-sub-t23 c = omega (arith, longer _ _ _ _ _ _ _ (whole (c .before .before .before .before .before .before .before .before)) (stopped (c .before .before .before .before)))
+sub-put : tie.Need-sub-put
+sub-put c = omega (arith, longer _ _ _ _ _ _ _ (whole (c .before .before .before .before .before .before)) (stopped (c .before .before)))
 
 same-length-2 : tie.Need-same-length-2
 same-length-2 c = search needs
 
 returns-2 : tie.Need-returns-2
 returns-2 c = (acts-still _ _ _ _ _ _ _ (whole (c .before .before .before .before .before .before .before .before)) (stopped (c .before .before .before .before)) (c .if2 .taken), tt)
-
-sub-t16 : tie.Need-sub-t16
-sub-t16 c = omega (arith, longer _ _ _ _ _ _ _ (whole (c .before .before .before .before .before .before .before .before)) (stopped (c .before .before .before .before)))
 
 same-length-3 : tie.Need-same-length-3
 same-length-3 c = search needs
@@ -68,9 +65,8 @@ propagate-within-spec =
     slice-read-n
     slice-read-count
     run-requires
-    sub-t23
+    sub-put
     same-length-2
     returns-2
-    sub-t16
     same-length-3
     returns-3)
