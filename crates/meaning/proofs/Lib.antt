@@ -13,5 +13,6 @@ pub mod MergingTurned
 pub mod MergingValue
 pub mod MergingDistinct
 pub mod Merging
+pub mod Stored
 pub mod Tests
 pub mod Examples

@@ -116,3 +116,18 @@ places (e ∷ es) = place e ∷ places es
 -- a rule's atoms in the order in which it is scanned: the head, then the merged entries
 abbrev pub scope : Rule → List ℕ
 scope r = r .head ∷ places (r .set .entries)
+
+-- ---- a rule as a sentence of its own
+
+-- merging gives a count's entries weights, so that its value is a sum
+abbrev pub merged-kind : Kind → Kind
+merged-kind sum = sum
+merged-kind product = product
+merged-kind count = sum
+merged-kind maximum = maximum
+merged-kind minimum = minimum
+
+-- over the merged entries, with the constant taken off the bound
+abbrev pub as-sentence : Rule → Sentence
+as-sentence r =
+    record { head = r .head; kind = merged-kind (r .kind); side = r .side; bound = r .bound +ℤ negℤ (r .set .constant); entries = r .set .entries }
