@@ -1,5 +1,6 @@
 -- A sentence is blind outside its scope: whether it is satisfied depends only on its head and its merged entries' atoms, since the
--- merged set has its value. So a satisfying assignment that gives the trail's literals of the scope can be turned to the whole trail.
+-- merged set has its value; and a rule read as a sentence depends only on the rule's own. So a satisfying assignment that gives the
+-- trail's literals of the scope can be turned to the whole trail.
 -- Assumes nothing.
 use mathlib.Core.Path.{_≡_, refl, sym, _∙_, ap, ap₂, subst}
 use mathlib.Core.Bool.{Bool, true, false, cond}
@@ -10,32 +11,42 @@ use native.Mathlib.Decide.{ℕ-discrete}
 use lib.IntN.{ℤ}
 use lib.Dec.{T, eqb, eqb→eq, eqb-refl}
 use Rattle.meaning.specs.Meaning.{Assignment, atom, truth, holds, Entry, chosen, aggregate, comparison, Sentence, value, Satisfied, Agrees, Consistent, Conflict, Forced, On}
-use Rattle.meaning.specs.Merge.{raised, merged-value, rule-of, places, scope}
-use Rattle.meaning.proofs.Represents.{Represents}
+use Rattle.meaning.specs.Merge.{raised, merged-value, Rule, rule-of, places, scope, as-sentence}
 use Rattle.book.specs.Rows.{pick, causes}
 use Rattle.meaning.proofs.Trails.{truth-wanted, agrees-from}
+use Rattle.meaning.proofs.Stored.{merged-comparison, satisfied-stored, satisfied-written}
 use Rattle.book.proofs.Number.{In}
 use Rattle.book.specs.Means.{Among}
 
-abbrev pub Blind : Sentence → Type 0
-Blind s = (σ σ′ : Assignment) → ((a : ℕ) → In a (scope (rule-of s)) → σ′ a ≡ σ a) → Satisfied σ s → Satisfied σ′ s
+-- no atom outside the list counts
+pub record BlindOutside (sc : List ℕ) (s : Sentence) : Type 0 where
+  pub unseen : (σ σ′ : Assignment) → ((a : ℕ) → In a sc → σ′ a ≡ σ a) → Satisfied σ s → Satisfied σ′ s
 
--- ---- where the merged set has the sentence's value
+abbrev pub Blind : Sentence → Type 0
+Blind s = BlindOutside (scope (rule-of s)) s
+
+-- ---- where a merged set has the sentence's value
 
 chosen-same : (σ σ′ : Assignment) (es : List Entry) → ((a : ℕ) → In a (places es) → σ′ a ≡ σ a) → chosen σ′ es ≡ chosen σ es
 chosen-same σ σ′ [] same = refl
 chosen-same σ σ′ (e ∷ es) same =
     ap₂ (λ b ws. cond (truth (e .literal) b) (e .weight ∷ ws) ws) (same (atom (e .literal)) (inl refl)) (chosen-same σ σ′ es (λ a h. same a (inr h)))
 
-pub represents-blind : (s : Sentence) → Represents s (rule-of s .set) → Blind s
+merged-same : (r : Rule) (σ σ′ : Assignment) → ((a : ℕ) → In a (scope r) → σ′ a ≡ σ a) → merged-comparison r σ′ ≡ merged-comparison r σ
 unfolding merged-value
-represents-blind s m σ σ′ same h = same (s .head) (inl refl) ∙ h ∙ ap (comparison (s .side) (s .bound)) (sym values)
-  where
-    values : value s σ′ ≡ value s σ
-    values =
-        m .same-value σ′
-        ∙ ap (λ ws. raised (rule-of s .set .constant) (aggregate (s .kind) ws)) (chosen-same σ σ′ (rule-of s .set .entries) (λ a h. same a (inr h)))
-        ∙ sym (m .same-value σ)
+merged-same r σ σ′ same =
+    ap (λ ws. comparison (r .side) (r .bound) (raised (r .set .constant) (aggregate (r .kind) ws)))
+    (chosen-same σ σ′ (r .set .entries) (λ a h. same a (inr h)))
+
+pub stored-blind : (r : Rule) → BlindOutside (scope r) (as-sentence r)
+stored-blind r = record {
+  unseen = λ σ σ′ same h. satisfied-stored r σ′ .1 (same (r .head) (inl refl) ∙ satisfied-stored r σ .0 h ∙ sym (merged-same r σ σ′ same));
+}
+
+pub written-blind : (s : Sentence) → Blind s
+written-blind s = record {
+  unseen = λ σ σ′ same h. satisfied-written s σ′ .0 (stored-blind (rule-of s) .unseen σ σ′ same (satisfied-written s σ .1 h));
+}
 
 -- ---- the causes: the trail's literals of some atoms
 
@@ -143,10 +154,7 @@ module _ (sc : List ℕ) where
       go (inl k) = h k
       go (inr k) = refl
 
-module _ (s : Sentence) (blind : Blind s) (t : List ℤ) (c : Consistent t) (σ : Assignment) (sat : Satisfied σ s) (g : Agrees σ (causes t (scope (rule-of s)))) where
-  abbrev sc : List ℕ
-  sc = scope (rule-of s)
-
+module _ {sc : List ℕ} (s : Sentence) (blind : BlindOutside sc s) (t : List ℤ) (c : Consistent t) (σ : Assignment) (sat : Satisfied σ s) (g : Agrees σ (causes t sc)) where
   abbrev turned : Assignment
   turned = mixed sc σ (c .0)
 
@@ -161,7 +169,7 @@ module _ (s : Sentence) (blind : Blind s) (t : List ℤ) (c : Consistent t) (σ 
   turned-agrees = agrees-from (c .0) turned t (λ a o. mixed-same sc σ (c .0) a (λ h. on-trail a o h)) (c .1)
 
   turned-satisfied : Satisfied turned s
-  turned-satisfied = blind σ turned (λ a h. mixed-in sc σ (c .0) a h) sat
+  turned-satisfied = blind .unseen σ turned (λ a h. mixed-in sc σ (c .0) a h) sat
 
   -- a forced literal of the scope follows from the sentence and the causes alone
   pub forced-by-causes : (l : ℤ) → In (atom l) sc → Forced s t l → holds σ l ≡ true

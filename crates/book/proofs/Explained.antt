@@ -19,7 +19,7 @@ use Rattle.meaning.proofs.Members.{same→eq, eq→same}
 use Rattle.book.specs.Means.{IsNumber, Among, Some, EntailedBy, AllFalse, Explains, ExplainsConflict}
 use Rattle.book.proofs.Number.{numbered-each, In}
 use Rattle.book.proofs.Sound.{Reasoned, Sits, Sound, consistent}
-use Rattle.book.proofs.Blind.{Blind, causes-from, forced-by-causes, conflict-by-causes}
+use Rattle.book.proofs.Blind.{BlindOutside, Blind, causes-from, forced-by-causes, conflict-by-causes}
 
 -- ---- negations
 
@@ -39,12 +39,12 @@ causes-false t (x ∷ xs) f = (subst (λ m. Among m t) (sym (negℤ-negℤ x)) (
 
 -- ---- the two clauses, over the trail's literals of the scope
 
-module _ (s : Sentence) (blind : Blind s) (t : List ℤ) (c : Consistent t) (literals : (l : ℤ) → Among l t → 1 ≤ atom l) where
+module _ {sc : List ℕ} (s : Sentence) (blind : BlindOutside sc s) (t : List ℤ) (c : Consistent t) (literals : (l : ℤ) → Among l t → 1 ≤ atom l) where
   abbrev reasons : List ℤ
-  reasons = causes t (scope (rule-of s))
+  reasons = causes t sc
 
   decide : (σ : Assignment) → Agrees σ reasons ⊎ Some (λ m. holds σ m ≡ true) (map negℤ reasons)
-  decide σ = all-or-some σ reasons (λ l a. literals l (causes-from t (scope (rule-of s)) l a))
+  decide σ = all-or-some σ reasons (λ l a. literals l (causes-from t sc l a))
 
   conflict-clause : Conflict s t → EntailedBy s (map negℤ reasons)
   conflict-clause no-way σ sat = go (decide σ)
@@ -53,7 +53,7 @@ module _ (s : Sentence) (blind : Blind s) (t : List ℤ) (c : Consistent t) (lit
       go (inl g) = absurd (conflict-by-causes s blind t c σ sat g no-way)
       go (inr x) = x
 
-  derived-clause : (l : ℤ) → In (atom l) (scope (rule-of s)) → Forced s t l → EntailedBy s (l ∷ map negℤ reasons)
+  derived-clause : (l : ℤ) → In (atom l) sc → Forced s t l → EntailedBy s (l ∷ map negℤ reasons)
   derived-clause l inside f σ sat = go (decide σ)
     where
       go : Agrees σ reasons ⊎ Some (λ m. holds σ m ≡ true) (map negℤ reasons) → Some (λ m. holds σ m ≡ true) (l ∷ map negℤ reasons)
@@ -96,21 +96,22 @@ scope-numbered (suc (suc k)) (x ∷ ss) (j ∷ js) s m h = scope-numbered (suc k
 
 -- ---- explanations
 
--- of a conflict, over any consistent trail of literals
-pub conflict-listed : (ss : List Sentence) (js : List Judged) → Each Blind ss → JudgesAll ss js → (rows : List Row) → Consistent (trail rows)
-    → ((l : ℤ) → Among l (trail rows) → 1 ≤ atom l) → (k : ℕ) (s : Sentence) → IsNumber k ss s → Conflict s (trail rows)
+-- of a conflict, over any consistent trail of literals, where the sentence is blind outside the scope with its number
+pub conflict-listed : (ss : List Sentence) (js : List Judged) (rows : List Row) → Consistent (trail rows) → ((l : ℤ) → Among l (trail rows) → 1 ≤ atom l)
+    → (k : ℕ) (s : Sentence) → IsNumber k ss s → BlindOutside (numbered [] k (scopes js)) s → Conflict s (trail rows)
     → ExplainsConflict ss rows k (conflict-explanation (scopes js) rows k)
-conflict-listed ss js blind m rows agreed literals k s num c = record {
+conflict-listed ss js rows agreed literals k s num blind c = record {
   sentence = s;
   number = num;
-  entailed = subst (λ sc. EntailedBy s (map negℤ (causes (trail rows) sc))) (sym (scope-numbered k ss js s m num))
-      (conflict-clause s (numbered-each Blind k ss s num blind) (trail rows) agreed literals c);
+  entailed = conflict-clause s blind (trail rows) agreed literals c;
   literals-false = causes-false (trail rows) (causes (trail rows) (numbered [] k (scopes js))) (λ x a. causes-from (trail rows) (numbered [] k (scopes js)) x a);
 }
 
 module _ (n : ℕ) (ss : List Sentence) (js : List Judged) (blind : Each Blind ss) (m : JudgesAll ss js) (v : ℕ) (rows : List Row) (h : Sound n ss v rows) where
   pub conflict-explained : (k : ℕ) (s : Sentence) → IsNumber k ss s → Conflict s (trail rows) → ExplainsConflict ss rows k (conflict-explanation (scopes js) rows k)
-  conflict-explained = conflict-listed ss js blind m rows (consistent n ss v rows h) (λ l a. trail-within n ss v rows l h a)
+  conflict-explained k s num =
+      conflict-listed ss js rows (consistent n ss v rows h) (λ l a. trail-within n ss v rows l h a) k s num
+      (subst (λ sc. BlindOutside sc s) (sym (scope-numbered k ss js s m num)) (numbered-each Blind k ss s num blind))
 
   module _ (l : ℤ) (a : Among l (trail rows)) where
     abbrev mine : Row

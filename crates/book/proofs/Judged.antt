@@ -15,7 +15,7 @@ use Rattle.meaning.proofs.Extremes.{extreme-furthest}
 use Rattle.meaning.proofs.Says.{says-right}
 use Rattle.book.specs.Book.{Judges, JudgesAll, judged, judged-all, rules-of, WellFormed}
 use Rattle.book.proofs.Sound.{Within, Scoped}
-use Rattle.book.proofs.Blind.{Blind, represents-blind}
+use Rattle.book.proofs.Blind.{Blind, written-blind}
 
 module _ (n : ℕ) where
   represents : (s : Sentence) → WellFormed n s → Represents s (merge (s .kind) (s .entries))
@@ -46,4 +46,4 @@ module _ (n : ℕ) where
   all-scoped ss w = each-map (WellFormed n) (Scoped n) ss scoped w
 
   pub all-blind : (ss : List Sentence) → Each (WellFormed n) ss → Each Blind ss
-  all-blind ss w = each-map (WellFormed n) Blind ss (λ s h. represents-blind s (represents s h)) w
+  all-blind ss w = each-map (WellFormed n) Blind ss (λ s h. written-blind s) w
