@@ -1,30 +1,94 @@
--- What explain-conflict lists on a whole area: a clause that the sentence alone entails, all of whose literals are false on the trail. The
--- area's rules are the merges of the sentences, which judge as full assignments do, and its trail is consistent.
+-- What explain-conflict lists on a whole area: a clause that the sentence alone entails, all of whose literals are false on the trail. A
+-- stored rule is a sentence of its own, which the tests judge as full assignments do, and the trail is consistent; where the stored theory is
+-- the merge of written sentences, the clause is entailed by the written sentence.
 -- Assumes nothing.
-use mathlib.Core.Path.{_≡_, refl, sym, subst}
+use mathlib.Core.Path.{_≡_, refl, sym, _∙_, ap, subst}
 use mathlib.Core.Bool.{not}
-use mathlib.Core.List.{List}
-use Prim.Native.Nat.{ℕ, _≤_}
-use lib.ListN.{length}
-use lib.IntN.{ℤ}
+use mathlib.Core.List.{List, [], _∷_, map}
+use Prim.Native.Nat.{ℕ, zero, suc, _%_, _+_, _<_, _≤_}
+use native.Mathlib.Omega.{arith}
+use lib.ListN.{length, getD}
+use lib.IntN.{ℤ, pos}
 use lib.Dec.{T, leb, leb→le}
 use Rattle.types.specs.declared.Limits.{Limits}
-use Rattle.meaning.specs.Meaning.{atom, Sentence, Said, silent, conflict, forced, Says, Each}
-use Rattle.meaning.specs.Merge.{Rule}
-use Rattle.book.specs.Rows.{trail, numbered}
-use Rattle.book.specs.Table.{explain-conflict, listed, nobody, is-conflict, reply}
-use Rattle.book.specs.Book.{Counters, JudgesAll, judged-all, rules-of, WellFormed}
-use Rattle.book.specs.Means.{Among, ExplainsConflict}
-use Rattle.book.proofs.Number.{numbered-exists, judges-numbered, judges-length}
+use Rattle.meaning.specs.Meaning.{atom, Entry, place, Kind, sum, product, count, maximum, minimum, Sentence, Satisfied, Said, silent, conflict, forced, Says, Each, weighable, mixes}
+use Rattle.meaning.specs.Merge.{Rule, rule-of, scope, as-sentence}
+use Rattle.meaning.specs.Computed.{says}
+use Rattle.meaning.proofs.Represents.{Distinct}
+use Rattle.meaning.proofs.Gather.{each-map}
+use Rattle.meaning.proofs.Stored.{satisfied-written, IsMerged, says-stored}
+use Rattle.book.specs.Rows.{Row, trail, numbered}
+use Rattle.book.specs.Table.{Judged, scopes, explain-conflict, listed, nobody, is-conflict, reply}
+use Rattle.book.specs.Book.{Counters, judged, judged-all, rules-of}
+use Rattle.book.specs.Means.{IsNumber, Among, ExplainsConflict}
 use Rattle.book.proofs.Tests.{both-told}
-use Rattle.book.proofs.Judged.{all-judged, all-blind}
 use Rattle.book.proofs.Reports.{listed-is}
+use Rattle.book.proofs.Blind.{BlindOutside, stored-blind}
 use Rattle.book.proofs.Explained.{conflict-listed}
-use Rattle.area.specs.Layout.{atoms-of, length-of, rows-of, theory-of}
-use Rattle.area.specs.Whole.{Whole}
-use Rattle.whole.proofs.Gives.{consistent, row-atom-low}
+use Rattle.area.specs.Layout.{word, atoms-of, sentences-of, length-of, tag-at, kind-of, constant-of, record-at, rule-at, rows-of, theory-of}
+use Rattle.area.specs.Whole.{WeightWhole, EntryWhole, Once, RuleWhole, Whole}
+use Rattle.theory_check.proofs.Rules.{rules-length, rules-numbered}
+use Rattle.whole.proofs.Gives.{consistent, judged-count, numbered-rule, row-atom-low}
 use Rattle.calls.specs.Calls.{area-state}
+use Rattle.causes.proofs.Gives.{scope-numbered}
 use Rattle.causes.proofs.Rows.{among-row}
+
+-- ---- a stored rule of a whole area is merged
+
+unmixed-zero : (k : Kind) (x : ℕ) → T (not (mixes k)) → constant-of k x ≡ pos 0
+unmixed-zero sum x n = absurd n
+unmixed-zero product x n = refl
+unmixed-zero count x n = absurd n
+unmixed-zero maximum x n = refl
+unmixed-zero minimum x n = refl
+
+whole-weighable : (k : Kind) (written : ℕ) (e : Entry) → WeightWhole k written e → T (weighable k (e .weight))
+whole-weighable sum written e h = tt
+whole-weighable product written e h = h .low
+whole-weighable count written e h = tt
+whole-weighable maximum written e h = tt
+whole-weighable minimum written e h = tt
+
+once-distinct : (es : List Entry) → Once es → Distinct es
+once-distinct [] h = tt
+once-distinct (e ∷ es) h = (h .0, once-distinct es (h .1))
+
+whole-merged : (lim : Limits) (n : ℕ) (r : Rule) → RuleWhole lim n r → (T (not (mixes (r .kind))) → r .set .constant ≡ pos 0) → IsMerged r
+whole-merged lim n r h zero-constant =
+    let E = EntryWhole n (r .head) (r .kind) (r .written) in
+    let es = r .set .entries in
+    record {
+      unmixed = zero-constant;
+      weights = each-map E (λ e. T (weighable (r .kind) (e .weight))) es (λ e x. whole-weighable (r .kind) (r .written) e (x .weighs)) (h .entries);
+      literals = each-map E (λ e. 1 ≤ place e) es (λ e x. x .atom-low) (h .entries);
+      distinct = once-distinct es (h .once);
+      headless = each-map E (λ e. ¬ (place e ≡ r .head)) es (λ e x. x .other) (h .entries);
+    }
+
+-- ---- sentences by number
+
+is-numbered : (none : Rule) (i : ℕ) (rs : List Rule) → i < length rs → IsNumber (suc i) (map as-sentence rs) (as-sentence (getD rs i none))
+is-numbered none i [] l = let b : ⊥ = omega arith in absurd b
+is-numbered none zero (r ∷ rs) l = refl
+is-numbered none (suc i) (r ∷ rs) l = is-numbered none i rs (omega arith)
+
+written-number : (k : ℕ) (ss : List Sentence) (x : Sentence) → IsNumber k (map as-sentence (rules-of ss)) x → (s : Sentence) × IsNumber k ss s × (as-sentence (rule-of s) ≡ x)
+written-number k [] x h = absurd h
+written-number zero (s ∷ ss) x h = absurd h
+written-number (suc zero) (s ∷ ss) x h = (s, refl, h)
+written-number (suc (suc k)) (s ∷ ss) x h = written-number (suc k) ss x h
+
+explains-written : (ss : List Sentence) (rows : List Row) (k : ℕ) (ls : List ℤ) → ExplainsConflict (map as-sentence (rules-of ss)) rows k ls → ExplainsConflict ss rows k ls
+explains-written ss rows k ls x =
+    let y = written-number k ss (x .sentence) (x .number) in
+    record {
+      sentence = y .0;
+      number = y .1;
+      entailed = λ σ h. x .entailed σ (subst (Satisfied σ) (y .2) (satisfied-written (y .0) σ .1 h));
+      literals-false = x .literals-false;
+    }
+
+-- ---- the list
 
 conflict-passed : (y : Said) → T (not (not (is-conflict y))) → y ≡ conflict
 conflict-passed silent h = absurd h
@@ -32,20 +96,44 @@ conflict-passed conflict h = refl
 conflict-passed (forced l) h = absurd h
 
 module _ (lim : Limits) (w : List ℕ) (c : Counters) (h : Whole lim w c) where
-  literals : (l : ℤ) → Among l (trail (rows-of w)) → 1 ≤ atom l
-  literals l a = let x = among-row w (atoms-of w) l (length-of w) a in subst (λ y. 1 ≤ atom y) (x .2) (row-atom-low lim w c h (x .0) (x .1))
+  abbrev n : ℕ
+  n = atoms-of w
 
-  pub explain-conflict-means : (n : ℕ) (ss : List Sentence) → Each (WellFormed n) ss → theory-of w ≡ rules-of ss
-      → (k room : ℕ) (ls : List ℤ) → reply (area-state lim w) (explain-conflict k room) .answer ≡ listed ls → ExplainsConflict ss (rows-of w) k ls
-  explain-conflict-means n ss well same k room ls e =
+  abbrev S : ℕ
+  S = sentences-of w
+
+  abbrev rule : ℕ → Rule
+  rule s = rule-at w n S (record-at n s)
+
+  literals : (l : ℤ) → Among l (trail (rows-of w)) → 1 ≤ atom l
+  literals l a = let x = among-row w n l (length-of w) a in subst (λ y. 1 ≤ atom y) (x .2) (row-atom-low lim w c h (x .0) (x .1))
+
+  merged : (s : ℕ) → s < S → IsMerged (rule s)
+  merged s l = whole-merged lim n (rule s) (h .theory .each s l .rule) (unmixed-zero (rule s .kind) (word w (record-at n s + 3)))
+
+  numbered-sentence : (s : ℕ) → s < S → IsNumber (suc s) (map as-sentence (theory-of w)) (as-sentence (rule s))
+  numbered-sentence s l =
+      subst (λ r. IsNumber (suc s) (map as-sentence (theory-of w)) (as-sentence r)) (rules-numbered w n S s (rule s) l)
+      (is-numbered (rule s) s (theory-of w) (omega (arith, rules-length w n S 0 S)))
+
+  -- of the stored theory, each rule a sentence of its own
+  pub explain-conflict-means : (k room : ℕ) (ls : List ℤ) → reply (area-state lim w) (explain-conflict k room) .answer ≡ listed ls
+      → ExplainsConflict (map as-sentence (theory-of w)) (rows-of w) k ls
+  explain-conflict-means zero room ls e = absurd (listed-is (area-state lim w) (explain-conflict zero room) ls e .0 .0)
+  explain-conflict-means (suc s) room ls e =
       let t = trail (rows-of w) in
       let js = judged-all (theory-of w) in
-      let m : JudgesAll ss js = subst (λ (rs : List Rule). JudgesAll ss (judged-all rs)) (sym same) (all-judged n ss well) in
       let agreed = consistent lim w c h in
-      let x = listed-is (area-state lim w) (explain-conflict k room) ls e in
-      let i = both-told (leb 1 k) (leb k (length js)) (x .0 .0) in
-      let s = numbered-exists k ss (leb→le 1 k (i .0)) (subst (λ m. k ≤ m) (sym (judges-length ss js m)) (leb→le k (length js) (i .1))) in
-      let j = judges-numbered nobody k ss js (s .0) m (s .1) in
-      subst (ExplainsConflict ss (rows-of w) k) (x .1)
-      (conflict-listed ss js (all-blind n ss well) m (rows-of w) agreed literals k (s .0) (s .1)
-      (subst (Says (s .0) t (numbered nobody k js .scope)) (conflict-passed (numbered nobody k js .says t) (x .0 .1 .0)) (j .said t agreed)))
+      let x = listed-is (area-state lim w) (explain-conflict (suc s) room) ls e in
+      let l : s < S = omega (arith, leb→le (suc s) (length js) (both-told (leb 1 (suc s)) (leb (suc s) (length js)) (x .0 .0) .1), judged-count w) in
+      let said : says (rule s) t ≡ conflict = sym (ap (λ j. j .says t) (numbered-rule w nobody s l)) ∙ conflict-passed (numbered nobody (suc s) js .says t) (x .0 .1 .0) in
+      subst (ExplainsConflict (map as-sentence (theory-of w)) (rows-of w) (suc s)) (x .1)
+      (conflict-listed (map as-sentence (theory-of w)) js (rows-of w) agreed literals (suc s) (as-sentence (rule s)) (numbered-sentence s l)
+      (subst (λ sc. BlindOutside sc (as-sentence (rule s))) (sym (scope-numbered w s l)) (stored-blind (rule s)))
+      (subst (Says (as-sentence (rule s)) t (scope (rule s))) said (says-stored (rule s) (merged s l) (h .theory .each s l .rule .head-low) t agreed)))
+
+  -- and of the written sentences, where the stored theory is their merge
+  pub explain-conflict-written : (ss : List Sentence) → theory-of w ≡ rules-of ss → (k room : ℕ) (ls : List ℤ)
+      → reply (area-state lim w) (explain-conflict k room) .answer ≡ listed ls → ExplainsConflict ss (rows-of w) k ls
+  explain-conflict-written ss same k room ls e =
+      explains-written ss (rows-of w) k ls (subst (λ rs. ExplainsConflict (map as-sentence rs) (rows-of w) k ls) same (explain-conflict-means k room ls e))

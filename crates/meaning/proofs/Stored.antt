@@ -5,7 +5,7 @@ use mathlib.Core.Path.{_≡_, refl, sym, _∙_, ap, subst}
 use mathlib.Core.Bool.{Bool, true, false, not, Bool·beq}
 use mathlib.Core.List.{List, [], _∷_}
 use Prim.Native.Nat.{ℕ, _≤_}
-use lib.IntN.{ℤ, pos, negℤ, _+ℤ_}
+use lib.IntN.{ℤ, pos, negℤ, _+ℤ_, _-ℤ_}
 use lib.Signed.{leZ}
 use lib.Dec.{T}
 use Rattle.numbers.specs.Extended.{Extended, below, at, above, Direction}
@@ -39,15 +39,15 @@ same-test : (p q : Bool) → (T p → T q) → (T q → T p) → p ≡ q
 same-test true q f g = sym (is-true (f tt))
 same-test false q f g = sym (is-false g)
 
-comparison-raised : (s : Side) (b c : ℤ) (v : Extended) → comparison s b (raised c v) ≡ comparison s (b +ℤ negℤ c) v
+comparison-raised : (s : Side) (b c : ℤ) (v : Extended) → comparison s b (raised c v) ≡ comparison s (b -ℤ c) v
 comparison-raised lower b c below = refl
 comparison-raised lower b c (at z) =
-    same-test (leZ b (c +ℤ z)) (leZ (b +ℤ negℤ c) z)
+    same-test (leZ b (c +ℤ z)) (leZ (b -ℤ c) z)
     (λ h. omega (ints, sum-parts c z, sum-parts b (negℤ c), neg-parts c)) (λ h. omega (ints, sum-parts c z, sum-parts b (negℤ c), neg-parts c))
 comparison-raised lower b c above = refl
 comparison-raised upper b c below = refl
 comparison-raised upper b c (at z) =
-    same-test (leZ (c +ℤ z) b) (leZ z (b +ℤ negℤ c))
+    same-test (leZ (c +ℤ z) b) (leZ z (b -ℤ c))
     (λ h. omega (ints, sum-parts c z, sum-parts b (negℤ c), neg-parts c)) (λ h. omega (ints, sum-parts c z, sum-parts b (negℤ c), neg-parts c))
 comparison-raised upper b c above = refl
 

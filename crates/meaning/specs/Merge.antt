@@ -2,7 +2,7 @@
 -- Assumes nothing.
 use mathlib.Core.Bool.{Bool, true, false, cond}
 use mathlib.Core.List.{List, [], _∷_}
-use lib.IntN.{ℤ, pos, negsuc, negℤ, _+ℤ_, _*ℤ_}
+use lib.IntN.{ℤ, pos, negsuc, negℤ, _+ℤ_, _-ℤ_, _*ℤ_}
 use lib.Signed.{leZ}
 use Prim.Native.Nat.{ℕ, suc}
 use lib.ListN.{length}
@@ -130,4 +130,4 @@ merged-kind minimum = minimum
 -- over the merged entries, with the constant taken off the bound
 abbrev pub as-sentence : Rule → Sentence
 as-sentence r =
-    record { head = r .head; kind = merged-kind (r .kind); side = r .side; bound = r .bound +ℤ negℤ (r .set .constant); entries = r .set .entries }
+    record { head = r .head; kind = merged-kind (r .kind); side = r .side; bound = r .bound -ℤ r .set .constant; entries = r .set .entries }
