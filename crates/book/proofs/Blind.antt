@@ -10,7 +10,7 @@ use Prim.Native.Nat.{ℕ}
 use native.Mathlib.Decide.{ℕ-discrete}
 use lib.IntN.{ℤ}
 use lib.Dec.{T, eqb, eqb→eq, eqb-refl}
-use Rattle.meaning.specs.Meaning.{Assignment, atom, truth, holds, Entry, chosen, aggregate, comparison, Sentence, value, Satisfied, Agrees, Consistent, Conflict, Forced, On}
+use Rattle.meaning.specs.Meaning.{Assignment, atom, truth, holds, Entry, chosen, aggregate, comparison, Sentence, Satisfied, Agrees, Consistent, Conflict, Forced, On}
 use Rattle.meaning.specs.Merge.{raised, merged-value, Rule, rule-of, places, scope, as-sentence}
 use Rattle.book.specs.Rows.{pick, causes}
 use Rattle.meaning.proofs.Trails.{truth-wanted, agrees-from}

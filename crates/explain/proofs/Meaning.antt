@@ -5,27 +5,27 @@
 use mathlib.Core.Path.{_≡_, refl, sym, _∙_, ap, subst}
 use mathlib.Core.Bool.{not}
 use mathlib.Core.List.{List, [], _∷_, map}
-use Prim.Native.Nat.{ℕ, zero, suc, _%_, _+_, _<_, _≤_}
+use Prim.Native.Nat.{ℕ, zero, suc, _+_, _<_, _≤_}
 use native.Mathlib.Omega.{arith}
 use lib.ListN.{length, getD}
 use lib.IntN.{ℤ, pos}
 use lib.Dec.{T, leb, leb→le}
 use Rattle.types.specs.declared.Limits.{Limits}
-use Rattle.meaning.specs.Meaning.{atom, Entry, place, Kind, sum, product, count, maximum, minimum, Sentence, Satisfied, Said, silent, conflict, forced, Says, Each, weighable, mixes}
+use Rattle.meaning.specs.Meaning.{atom, Entry, place, Kind, sum, product, count, maximum, minimum, Sentence, Satisfied, Said, silent, conflict, forced, Says, weighable, mixes}
 use Rattle.meaning.specs.Merge.{Rule, rule-of, scope, as-sentence}
 use Rattle.meaning.specs.Computed.{says}
 use Rattle.meaning.proofs.Represents.{Distinct}
 use Rattle.meaning.proofs.Gather.{each-map}
 use Rattle.meaning.proofs.Stored.{satisfied-written, IsMerged, says-stored}
 use Rattle.book.specs.Rows.{Row, trail, numbered}
-use Rattle.book.specs.Table.{Judged, scopes, explain-conflict, listed, nobody, is-conflict, reply}
-use Rattle.book.specs.Book.{Counters, judged, judged-all, rules-of}
+use Rattle.book.specs.Table.{explain-conflict, listed, nobody, is-conflict, reply}
+use Rattle.book.specs.Book.{Counters, judged-all, rules-of}
 use Rattle.book.specs.Means.{IsNumber, Among, ExplainsConflict}
 use Rattle.book.proofs.Tests.{both-told}
 use Rattle.book.proofs.Reports.{listed-is}
 use Rattle.book.proofs.Blind.{BlindOutside, stored-blind}
 use Rattle.book.proofs.Explained.{conflict-listed}
-use Rattle.area.specs.Layout.{word, atoms-of, sentences-of, length-of, tag-at, kind-of, constant-of, record-at, rule-at, rows-of, theory-of}
+use Rattle.area.specs.Layout.{word, atoms-of, sentences-of, length-of, constant-of, record-at, rule-at, rows-of, theory-of}
 use Rattle.area.specs.Whole.{WeightWhole, EntryWhole, Once, RuleWhole, Whole}
 use Rattle.theory_check.proofs.Rules.{rules-length, rules-numbered}
 use Rattle.whole.proofs.Gives.{consistent, judged-count, numbered-rule, row-atom-low}
@@ -72,13 +72,15 @@ is-numbered none i [] l = let b : ⊥ = omega arith in absurd b
 is-numbered none zero (r ∷ rs) l = refl
 is-numbered none (suc i) (r ∷ rs) l = is-numbered none i rs (omega arith)
 
-written-number : (k : ℕ) (ss : List Sentence) (x : Sentence) → IsNumber k (map as-sentence (rules-of ss)) x → (s : Sentence) × IsNumber k ss s × (as-sentence (rule-of s) ≡ x)
+written-number : (k : ℕ) (ss : List Sentence) (x : Sentence) → IsNumber k (map as-sentence (rules-of ss)) x
+    → (s : Sentence) × IsNumber k ss s × (as-sentence (rule-of s) ≡ x)
 written-number k [] x h = absurd h
 written-number zero (s ∷ ss) x h = absurd h
 written-number (suc zero) (s ∷ ss) x h = (s, refl, h)
 written-number (suc (suc k)) (s ∷ ss) x h = written-number (suc k) ss x h
 
-explains-written : (ss : List Sentence) (rows : List Row) (k : ℕ) (ls : List ℤ) → ExplainsConflict (map as-sentence (rules-of ss)) rows k ls → ExplainsConflict ss rows k ls
+explains-written : (ss : List Sentence) (rows : List Row) (k : ℕ) (ls : List ℤ)
+    → ExplainsConflict (map as-sentence (rules-of ss)) rows k ls → ExplainsConflict ss rows k ls
 explains-written ss rows k ls x =
     let y = written-number k ss (x .sentence) (x .number) in
     record {

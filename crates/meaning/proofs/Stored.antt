@@ -10,10 +10,10 @@ use lib.Signed.{leZ}
 use lib.Dec.{T}
 use Rattle.numbers.specs.Extended.{Extended, below, at, above, Direction}
 use Rattle.numbers.proofs.Integers.{ints, sum-parts, neg-parts}
-use Rattle.meaning.specs.Meaning.{Assignment, Entry, place, chosen, Kind, sum, product, count, maximum, minimum, aggregate, empty, members, Side, lower, upper, comparison, Sentence, value, Satisfied, Consistent, Conflict, conflict, Says, Each, weighable, mixes}
+use Rattle.meaning.specs.Meaning.{Assignment, Entry, place, chosen, Kind, sum, product, count, maximum, minimum, aggregate, empty, members, Side, lower, upper, comparison, Sentence, value, Satisfied, Consistent, Conflict, Says, Each, weighable, mixes}
 use Rattle.meaning.specs.Merge.{Merged, turned-all, freed-all, put, collect, nonzero, raised, merged-value, Rule, rule-with, rule-of, scope, merged-kind, as-sentence}
 use Rattle.meaning.specs.Computed.{combine, gather, starting, Standing, free, fixed, standing, extreme-of, extreme, towards, refuted-at, refuted, first-due, says}
-use Rattle.meaning.specs.Examples.{minus, _on_, sentence, m3, count-mixed}
+use Rattle.meaning.specs.Examples.{minus, _on_, sentence, m3}
 use Rattle.meaning.proofs.Represents.{Off, Distinct, Represents}
 use Rattle.meaning.proofs.Orders.{is-true, is-false, combine-comm, empty-combine}
 use Rattle.meaning.proofs.Gather.{each-map, gather-last, raised-zero, raised-starting}
@@ -23,15 +23,19 @@ use Rattle.meaning.proofs.Merging.{merge-keeps-value}
 
 -- ---- examples, which compute
 
--- a sum with the constant -2
+-- the rule of a sum, with the constant -2
 sum-stored : as-sentence (rule-of m3) ≡ sentence 3 sum lower (pos 2) (minus 3 on pos 1 ∷ pos 7 on pos 2 ∷ [])
 unfolding turned-all freed-all put collect nonzero
 sum-stored = refl
 
--- a count with the constant 1
-count-stored : as-sentence (rule-of count-mixed) ≡ sentence 4 sum upper (pos 0) (pos 1 on pos 2 ∷ [])
-unfolding turned-all freed-all put collect nonzero
-count-stored = refl
+-- a count that no sentence is merged to, over its entries as they weigh
+abbrev weighing-count : Rule
+weighing-count =
+    record { head = 4; kind = count; side = upper; bound = pos 5; set = record { constant = pos 2; entries = pos 3 on pos 1 ∷ minus 2 on pos 2 ∷ [] }; written = 3 }
+
+count-stored : (value (as-sentence weighing-count) (λ a. true) ≡ at (pos 1)) × (as-sentence weighing-count .bound ≡ pos 3)
+unfolding value
+count-stored = (refl, refl)
 
 -- ---- the constant and the bound
 
@@ -42,13 +46,17 @@ same-test false q f g = sym (is-false g)
 comparison-raised : (s : Side) (b c : ℤ) (v : Extended) → comparison s b (raised c v) ≡ comparison s (b -ℤ c) v
 comparison-raised lower b c below = refl
 comparison-raised lower b c (at z) =
-    same-test (leZ b (c +ℤ z)) (leZ (b -ℤ c) z)
-    (λ h. omega (ints, sum-parts c z, sum-parts b (negℤ c), neg-parts c)) (λ h. omega (ints, sum-parts c z, sum-parts b (negℤ c), neg-parts c))
+    let p = sum-parts c z in
+    let q = sum-parts b (negℤ c) in
+    let o = neg-parts c in
+    same-test (leZ b (c +ℤ z)) (leZ (b -ℤ c) z) (λ h. omega ints) (λ h. omega ints)
 comparison-raised lower b c above = refl
 comparison-raised upper b c below = refl
 comparison-raised upper b c (at z) =
-    same-test (leZ (c +ℤ z) b) (leZ z (b -ℤ c))
-    (λ h. omega (ints, sum-parts c z, sum-parts b (negℤ c), neg-parts c)) (λ h. omega (ints, sum-parts c z, sum-parts b (negℤ c), neg-parts c))
+    let p = sum-parts c z in
+    let q = sum-parts b (negℤ c) in
+    let o = neg-parts c in
+    same-test (leZ (c +ℤ z) b) (leZ z (b -ℤ c)) (λ h. omega ints) (λ h. omega ints)
 comparison-raised upper b c above = refl
 
 -- ---- when it is satisfied
@@ -81,12 +89,14 @@ same-comparison r σ =
     ap (comparison (r .side) (as-sentence r .bound)) (value-merged r σ ∙ aggregate-merged (r .kind) (chosen σ (r .set .entries)))
     ∙ sym (comparison-raised (r .side) (r .bound) (r .set .constant) (aggregate (r .kind) (chosen σ (r .set .entries))))
 
--- exactly where the head has the truth of that comparison
-pub satisfied-stored : (r : Rule) (σ : Assignment) → (Satisfied σ (as-sentence r) → σ (r .head) ≡ merged-comparison r σ) × (σ (r .head) ≡ merged-comparison r σ → Satisfied σ (as-sentence r))
+-- a rule's sentence is satisfied exactly where the head has the truth of that comparison
+pub satisfied-stored : (r : Rule) (σ : Assignment)
+    → (Satisfied σ (as-sentence r) → σ (r .head) ≡ merged-comparison r σ) × (σ (r .head) ≡ merged-comparison r σ → Satisfied σ (as-sentence r))
 satisfied-stored r σ = (λ h. h ∙ same-comparison r σ, λ h. h ∙ sym (same-comparison r σ))
 
--- and for the rule of a written sentence, exactly where the sentence is
-pub satisfied-written : (s : Sentence) (σ : Assignment) → (Satisfied σ (as-sentence (rule-of s)) → Satisfied σ s) × (Satisfied σ s → Satisfied σ (as-sentence (rule-of s)))
+-- and that of a written sentence's rule exactly where the written sentence is
+pub satisfied-written : (s : Sentence) (σ : Assignment)
+    → (Satisfied σ (as-sentence (rule-of s)) → Satisfied σ s) × (Satisfied σ s → Satisfied σ (as-sentence (rule-of s)))
 unfolding value
 satisfied-written s σ =
     let same = ap (comparison (s .side) (s .bound)) (merge-keeps-value (s .kind) (s .entries) σ) in
@@ -125,7 +135,8 @@ bare-represents r m =
     record {
       same-value = λ σ. value-merged r σ ∙ sym (raised-zero (aggregate (merged-kind k) (chosen σ es)));
       unmixed = λ n. refl;
-      weights = each-map (λ e. T (weighable k (e .weight))) (λ e. T (weighable (merged-kind k) (e .weight))) es (λ e. weighable-merged k (e .weight)) (m .weights);
+      weights = each-map (λ e. T (weighable k (e .weight))) (λ e. T (weighable (merged-kind k) (e .weight))) es
+          (λ e. weighable-merged k (e .weight)) (m .weights);
       literals = m .literals;
       distinct = m .distinct;
       headless = m .headless;
