@@ -10,7 +10,7 @@
 --                       written + 2^16 × merged entries
 --   4N + 8S + 2j ..     entry j: weight, literal; the merged ones first in each sentence's room, 0 behind them
 -- Assumes nothing.
-use mathlib.Core.Bool.{Bool, true, false, cond}
+use mathlib.Core.Bool.{Bool, cond}
 use mathlib.Core.List.{List, [], _∷_}
 use Prim.Native.Nat.{ℕ, zero, suc, _+_, _-_, _*_, _/_, _%_}
 use lib.ListN.{length, getD}
@@ -19,7 +19,7 @@ use lib.IntN.{ℤ, pos, negsuc}
 use lib.Dec.{eqb, leb}
 use Rattle.numbers.specs.Words.{unbias, literal-of}
 use Rattle.meaning.specs.Meaning.{atom, Entry, Kind, sum, product, count, maximum, minimum, Side, lower, upper}
-use Rattle.meaning.specs.Merge.{Merged, Rule}
+use Rattle.meaning.specs.Merge.{Rule}
 use Rattle.book.specs.Rows.{Row}
 
 abbrev pub word : List ℕ → ℕ → ℕ

@@ -2,17 +2,17 @@
 -- counters.
 -- Assumes nothing.
 use mathlib.Core.Path.{_≡_}
-use mathlib.Core.Bool.{Bool, true, false, not}
+use mathlib.Core.Bool.{false, not}
 use mathlib.Core.List.{List, [], _∷_}
-use Prim.Native.Nat.{ℕ, zero, suc, _+_, _*_, _<_, _≤_, _%_}
+use Prim.Native.Nat.{ℕ, suc, _+_, _*_, _<_, _≤_, _%_}
 use lib.ListN.{length, getD}
 use lib.IntN.{ℤ, pos, natAbs}
 use lib.Signed.{leZ}
 use lib.Dec.{T}
 use Rattle.types.specs.declared.Limits.{Limits}
-use Rattle.numbers.specs.Extended.{Extended, up, down}
+use Rattle.numbers.specs.Extended.{up, down}
 use Rattle.numbers.specs.Words.{word as word-of}
-use Rattle.meaning.specs.Meaning.{atom, Entry, place, Kind, sum, product, count, maximum, minimum, mixes, multiplied, Each, Said, silent}
+use Rattle.meaning.specs.Meaning.{atom, Entry, place, Kind, sum, product, count, maximum, minimum, mixes, multiplied, Each, silent}
 use Rattle.meaning.specs.Merge.{Rule, scope}
 use Rattle.meaning.specs.Computed.{extreme, says}
 use Rattle.book.specs.Rows.{Row, trail}

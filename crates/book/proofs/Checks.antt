@@ -2,7 +2,6 @@
 -- being well-formed. This stands on the definitions alone. Assumes nothing.
 use mathlib.Core.Path.{_≡_, refl}
 use mathlib.Core.Bool.{Bool, _&&_}
-use mathlib.Core.List.{List, [], _∷_}
 use Prim.Native.Nat.{ℕ}
 use lib.Dec.{T, leb}
 use Rattle.meaning.specs.Meaning.{place, Sentence, Each}

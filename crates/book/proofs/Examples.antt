@@ -1,8 +1,7 @@
 -- The claim about document 01's examples: the book gives each story's answers, whoever judges its sentences by full assignments, since
 -- all who do so give the same answers and the computed tests do so. Assumes nothing.
-use mathlib.Core.Path.{_≡_, _∙_}
+use mathlib.Core.Path.{_∙_}
 use mathlib.Core.Bool.{Bool, _&&_}
-use mathlib.Core.List.{List, [], _∷_}
 use Prim.Native.Nat.{ℕ, _≤_}
 use lib.Dec.{T, leb, leb→le}
 use Rattle.meaning.specs.Meaning.{place, Sentence, Each}

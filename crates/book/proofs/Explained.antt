@@ -6,10 +6,9 @@ use mathlib.Core.Bool.{Bool, true, false, not, cond}
 use mathlib.Core.Logic.{_⊎_, inl, inr}
 use mathlib.Core.List.{List, [], _∷_, map}
 use Prim.Native.Nat.{ℕ, zero, suc, _≤_}
-use native.Mathlib.Omega.{arith}
-use lib.IntN.{ℤ, pos, negsuc, negℤ, negℤ-negℤ}
+use lib.IntN.{ℤ, negℤ, negℤ-negℤ}
 use lib.Dec.{T}
-use Rattle.meaning.specs.Meaning.{Assignment, atom, truth, holds, same, Sentence, Satisfied, Agrees, Consistent, Conflict, Forced, Each}
+use Rattle.meaning.specs.Meaning.{Assignment, atom, holds, same, Sentence, Agrees, Consistent, Conflict, Forced, Each}
 use Rattle.meaning.specs.Merge.{rule-of, scope}
 use Rattle.book.specs.Rows.{Row, trail, causes, Standpoint, row-of, numbered, explanation, conflict-explanation}
 use Rattle.book.specs.Table.{Judged, scopes}

@@ -1,9 +1,8 @@
 -- The computed tests on the merge of a well-formed sentence judge it as full assignments do; and its scope is of atoms 1 to N, outside
 -- which it is blind. Assumes nothing.
-use mathlib.Core.Path.{_≡_, refl}
+use mathlib.Core.Path.{refl}
 use mathlib.Core.List.{List, [], _∷_}
 use Prim.Native.Nat.{ℕ, _≤_}
-use lib.IntN.{ℤ}
 use Rattle.numbers.specs.Extended.{up, down}
 use Rattle.meaning.specs.Meaning.{place, Sentence, Each}
 use Rattle.meaning.specs.Merge.{merge, rule-of}

@@ -4,13 +4,13 @@
 use mathlib.Core.Path.{_≡_, refl, sym, _∙_, ap, subst}
 use mathlib.Core.Bool.{Bool, true, false, cond}
 use mathlib.Core.Logic.{_⊎_, inl, inr}
-use mathlib.Core.List.{List, [], _∷_, reverse}
+use mathlib.Core.List.{List, [], _∷_}
 use Prim.Native.Nat.{ℕ}
 use native.Mathlib.Omega.{arith}
 use lib.IntN.{ℤ}
 use lib.Dec.{T, eqb, eqb→eq}
 use borrow.Author.Tests.{eq-eqb, ne-eqb}
-use Rattle.meaning.specs.Meaning.{Assignment, atom, holds, same, Sentence, Satisfied, Agrees, On, Each}
+use Rattle.meaning.specs.Meaning.{Assignment, atom, holds, same, Sentence, Satisfied, On, Each}
 use Rattle.meaning.specs.Merge.{rule-of, scope}
 use Rattle.book.specs.Rows.{Row, trail, causes, Standpoint, row-of, numbered, any, comes-from, origins}
 use Rattle.book.specs.Table.{Judged, scopes}
@@ -18,7 +18,7 @@ use Rattle.book.specs.Book.{JudgesAll}
 use Rattle.meaning.proofs.Orders.{is-true, is-false}
 use Rattle.meaning.proofs.Members.{same→eq, eq→same}
 use Rattle.book.proofs.Number.{numbered-each, numbered-positive}
-use Rattle.book.specs.Means.{Among, NoTwice, Subsequence, GivenNoLater, OriginList}
+use Rattle.book.specs.Means.{Among, NoTwice, GivenNoLater, OriginList}
 use Rattle.book.proofs.Tests.{among-on, any-told, any-tells}
 use Rattle.book.proofs.Sound.{Reasoned, Sound, consistent}
 use Rattle.book.proofs.Blind.{Blind, causes-from, agrees-each, each-agrees, forced-by-causes}

@@ -12,7 +12,7 @@ use Rattle.meaning.specs.Meaning.{atom, same, On, Each}
 use Rattle.book.specs.Rows.{any}
 use Rattle.book.specs.Table.{State, Call, refused, Refusal, Outcome, unchanged, decided, refusal, refusals, effect, reply}
 use Rattle.book.specs.Means.{Among}
-use Rattle.meaning.proofs.Members.{same→eq, eq→same}
+use Rattle.meaning.proofs.Members.{same→eq}
 
 -- ---- membership of literals
 

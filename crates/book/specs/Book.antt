@@ -3,13 +3,13 @@
 -- assignments.
 -- Assumes nothing.
 use mathlib.Core.Path.{_≡_}
-use mathlib.Core.Bool.{Bool, true, false, not, _&&_}
+use mathlib.Core.Bool.{Bool, not, _&&_}
 use mathlib.Core.List.{List, [], _∷_}
 use Prim.Native.Nat.{ℕ, _+_, _*_, _≤_}
 use lib.ListN.{length}
 use lib.IntN.{ℤ}
 use lib.Dec.{eqb, leb}
-use Rattle.numbers.specs.Extended.{Extended, Direction, up, down}
+use Rattle.numbers.specs.Extended.{up, down}
 use Rattle.meaning.specs.Meaning.{Sentence, Consistent, Furthest, Says, Each, Admissible, place}
 use Rattle.meaning.specs.Merge.{Rule, rule-of, scope}
 use Rattle.meaning.specs.Computed.{extreme, says}

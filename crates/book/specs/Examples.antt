@@ -5,13 +5,13 @@ use mathlib.Core.Path.{_≡_}
 use mathlib.Core.List.{List, [], _∷_}
 use Prim.Native.Nat.{ℕ}
 use lib.IntN.{ℤ, pos}
-use Rattle.numbers.specs.Extended.{Extended, below, at, above}
+use Rattle.numbers.specs.Extended.{below, at, above}
 use Rattle.meaning.specs.Meaning.{sum, maximum, lower, upper, Sentence}
 use Rattle.meaning.specs.Examples.{minus, _on_, sentence, over-none, m1, m3, m4, m8, m9, m10}
 use Rattle.types.specs.declared.Limits.{Limits}
 use Rattle.types.specs.Limits.{base}
 use Rattle.book.specs.Table.{Call, give, open-level, take-back, propagate, bounds, explain, explain-conflict, origin, list-trail, Answer, refused, done, still, clash, between, listed, Paper, paper, list-after, Judged}
-use Rattle.book.specs.Book.{JudgesAll, fresh, Counters, Asked, answers}
+use Rattle.book.specs.Book.{JudgesAll, fresh, Asked, answers}
 
 pub record Turn : Type 0 where
   pub asked : Asked

@@ -16,7 +16,7 @@ use Rattle.numbers.proofs.Integers.{ints, sum-parts, neg-parts, size-parts, pro
 use Rattle.meaning.specs.Meaning.{Entry, Kind, sum, product, count, maximum, minimum, same, once, ones, multiplied, Each}
 use Rattle.meaning.specs.Merge.{turned-by, freed-by, turned-all, freed-all, joined, put, collect, nonzero}
 use Rattle.meaning.proofs.Gather.{each-map}
-use Rattle.meaning.proofs.Members.{eq→same, join, each, once-each, collect-each}
+use Rattle.meaning.proofs.Members.{eq→same, join, once-each, collect-each}
 use Rattle.kinds.specs.Kinds.{between, weight-fits}
 use Rattle.area.specs.Whole.{weights-of}
 

@@ -1,15 +1,15 @@
 -- The refusals of load, 1 to 8, in document 01's order: 1 and 2 first, then sentence by sentence 3 to 8.
 -- Assumes nothing.
-use mathlib.Core.Bool.{Bool, true, false, not, cond, _||_, _&&_}
+use mathlib.Core.Bool.{Bool, false, not, cond, _||_, _&&_}
 use mathlib.Core.List.{List, [], _∷_, _++_}
 use Prim.Native.Nat.{ℕ, suc, _+_, _*_}
 use lib.IntN.{ℤ, pos, negℤ}
 use lib.ListN.{length}
 use lib.Signed.{leZ}
-use lib.Dec.{eqb, leb, ltb}
+use lib.Dec.{eqb, ltb}
 use Rattle.types.specs.declared.Limits.{Limits}
 use Rattle.decide.specs.Below.{sum-first}
-use Rattle.meaning.specs.Meaning.{atom, Entry, place, Kind, product, mixes, same, multiplied}
+use Rattle.meaning.specs.Meaning.{Entry, place, product, mixes, same, multiplied}
 use Rattle.meaning.specs.Merge.{merge}
 use Rattle.kinds.specs.Kinds.{between, weight-fits}
 use Rattle.book.specs.Table.{Refusal}

@@ -8,7 +8,6 @@ use types::Counters;
 use types::Level;
 use types::Limits;
 use types::Sentence;
-ghost use Prim.Native.Nat.{_+_, _*_};
 ghost use Rattle.types.specs.Limits.{base};
 ghost use Rattle.columns.specs.Columns.{columns};
 ghost use Rattle.load.specs.Load.{Loads};

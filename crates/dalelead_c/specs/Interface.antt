@@ -2,16 +2,14 @@
 -- `w` and `w′` are the words of the area before and after, `out` and `out′` the lent words that hand back numbers.
 -- Assumes nothing.
 use mathlib.Core.Path.{_≡_}
-use mathlib.Core.Bool.{Bool, true, false, not, cond, _&&_, _||_}
+use mathlib.Core.Bool.{Bool, not, cond, _&&_, _||_}
 use mathlib.Core.List.{List, [], _∷_, _++_}
 use Prim.Native.Nat.{ℕ, _+_, _-_, _*_}
 use lib.ListN.{length, drop}
 use lib.IntN.{ℤ, pos}
 use lib.Dec.{T, eqb, leb, ltb}
-use Rattle.types.specs.declared.Limits.{Limits}
 use Rattle.types.specs.Limits.{base}
-use Rattle.numbers.specs.Extended.{Extended}
-use Rattle.book.specs.Table.{Call, Answer, refused, done, still, clash, between, listed, Paper, paper, list-after, mark, number, Outcome, reply}
+use Rattle.book.specs.Table.{Call, Answer, refused, done, still, clash, between, listed, paper, list-after, mark, number, Outcome, reply}
 use Rattle.book.specs.Book.{Counters}
 use Rattle.area.specs.Layout.{rows-of}
 use Rattle.area.specs.Whole.{Whole}

@@ -6,7 +6,7 @@ use mathlib.Core.List.{List, []}
 use Prim.Native.Nat.{_≤_}
 use lib.IntN.{ℤ, pos, _+ℤ_}
 use lib.Dec.{T}
-use Rattle.numbers.specs.Extended.{Extended, at}
+use Rattle.numbers.specs.Extended.{at}
 use Rattle.numbers.proofs.Integers.{product-mono}
 use Rattle.meaning.specs.Meaning.{Assignment, Entry, chosen, Kind, sum, product, count, maximum, minimum, total, aggregate, members, Sentence, value, Each, weighable, mixes, Admissible}
 use Rattle.meaning.specs.Merge.{freed-all, turned-all, constant, collect, nonzero, merge, raised, merged-value}

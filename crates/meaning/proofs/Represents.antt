@@ -7,7 +7,7 @@ use mathlib.Core.List.{List, [], _∷_}
 use Prim.Native.Nat.{ℕ, _≤_}
 use lib.IntN.{pos}
 use lib.Dec.{T}
-use Rattle.meaning.specs.Meaning.{Assignment, Entry, place, Kind, Sentence, value, Each, weighable, mixes}
+use Rattle.meaning.specs.Meaning.{Assignment, Entry, place, Sentence, value, Each, weighable, mixes}
 use Rattle.meaning.specs.Merge.{Merged, merged-value}
 
 -- no entry is of the atom

@@ -1,8 +1,8 @@
 -- What the tests of Checks.antt mean: a consistent trail, an admissible sentence, equal values. Assumes nothing.
-use mathlib.Core.Path.{_≡_, refl, sym, _∙_, ap, subst}
+use mathlib.Core.Path.{_≡_, refl, _∙_, ap, subst}
 use mathlib.Core.Bool.{Bool, true, false, not, cond, _&&_}
 use mathlib.Core.List.{List, [], _∷_}
-use Prim.Native.Nat.{ℕ, _≤_}
+use Prim.Native.Nat.{_≤_}
 use lib.IntN.{ℤ}
 use lib.Dec.{T, T-not, eqb, eqb-refl, leb, leb→le}
 use Rattle.numbers.specs.Extended.{Extended, leE}

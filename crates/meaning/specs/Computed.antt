@@ -8,7 +8,7 @@ use lib.IntN.{ℤ, pos, negℤ, _+ℤ_, _*ℤ_}
 use lib.Dec.{eqb}
 use Rattle.numbers.specs.Extended.{Extended, below, at, above, greater, lesser, Direction, up, down}
 use Rattle.meaning.specs.Meaning.{atom, truth, Entry, place, Kind, sum, product, count, maximum, minimum, empty, Side, lower, upper, comparison, Said, silent, conflict, forced}
-use Rattle.meaning.specs.Merge.{Merged, Rule, scope}
+use Rattle.meaning.specs.Merge.{Rule, scope}
 
 -- ---- values combined one after the other
 

@@ -4,7 +4,7 @@
 use mathlib.Core.List.{List, [], _∷_}
 use Prim.Native.Nat.{ℕ}
 use lib.IntN.{ℤ, pos, negℤ}
-use Rattle.numbers.specs.Extended.{Extended, below, at, above, Direction, up, down}
+use Rattle.numbers.specs.Extended.{Extended, below, at, above, up, down}
 use Rattle.meaning.specs.Meaning.{Entry, Kind, sum, product, count, maximum, minimum, Side, lower, upper, Sentence, Furthest, Said, silent, conflict, forced, Says}
 use Rattle.meaning.specs.Merge.{rule-of, scope}
 

@@ -1,7 +1,7 @@
 -- What merging a written set into a part of the area asks and leaves: the merged entries first, and words 0 behind them.
 -- Assumes nothing.
 use mathlib.Core.Path.{_≡_}
-use mathlib.Core.Bool.{Bool, true, false, not}
+use mathlib.Core.Bool.{false, not}
 use mathlib.Core.List.{List}
 use Prim.Native.Nat.{ℕ, _+_, _*_, _<_, _≤_}
 use lib.IntN.{ℤ, pos}
@@ -9,7 +9,7 @@ use lib.ListN.{length, take}
 use lib.Signed.{leZ}
 use lib.Dec.{T}
 use Rattle.numbers.specs.Words.{unbias}
-use Rattle.meaning.specs.Meaning.{Entry, place, product, mixes, multiplied, Each}
+use Rattle.meaning.specs.Meaning.{place, product, mixes, multiplied, Each}
 use Rattle.meaning.specs.Merge.{merge}
 use Rattle.kinds.specs.Kinds.{weight-fits}
 use Rattle.area.specs.Layout.{word, kind-of, entries-of}

@@ -7,7 +7,6 @@ ghost use mathlib.Core.Path.{_≡_};
 ghost use Prim.Native.Nat.{_+_, _<_, _≤_};
 ghost use lib.ListN.{length};
 ghost use Rattle.types.specs.Limits.{Fitting};
-ghost use Rattle.numbers.specs.Words.{literal-of};
 ghost use Rattle.book.specs.Table.{origin};
 ghost use Rattle.area.specs.Whole.{Whole};
 ghost use Rattle.calls.specs.Calls.{counted, listed-paper, Lists};
@@ -59,17 +58,6 @@ fn mark(area: &[u64], n: usize, count: usize, position: usize, marks: &mut [u8])
     mark(area, n, count, position - 1, marks);
 }
 
-// The literal of a stored word.
-fn literal_of(x: u64) -> i64
-    ensures { λ r. ⌜ r ≡ literal-of x ⌝ }
-{
-    let atom = (x / 2) as i64;
-    if x % 2 == 0 {
-        return atom;
-    }
-    0 - atom
-}
-
 // Whether position i is marked and its literal was given.
 fn is_chosen(area: &[u64], n: usize, i: usize, marks: &[u8]) -> bool
     requires { ⌜ Choosable (now area) n (i + 1) (now marks) ⌝ }
@@ -106,7 +94,7 @@ fn write_chosen(area: &[u64], n: usize, rows: usize, marks: &[u8], list: &mut [i
     let mut i: usize = 0;
     while i < rows {
         if is_chosen(area, n, i, marks) {
-            list[at] = literal_of(area[2 * n + i]);
+            list[at] = reports::literal_of(area[2 * n + i]);
             at += 1;
         }
         i += 1;

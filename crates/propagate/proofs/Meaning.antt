@@ -3,9 +3,8 @@
 -- reason forces over the rows before it, all lower-numbered sentences silent. The trail that is left is consistent, and so is every
 -- trail on the way, which is a tail of it. Assumes nothing.
 use mathlib.Core.Path.{_≡_, refl, sym, _∙_, ap, subst}
-use mathlib.Core.Logic.{_⊎_, inl, inr}
 use mathlib.Core.List.{List, [], _∷_, _++_}
-use Prim.Native.Nat.{ℕ, zero, suc, _+_, _≤_, _<_}
+use Prim.Native.Nat.{ℕ, zero, suc, _+_, _≤_}
 use native.Mathlib.Omega.{arith}
 use lib.ListN.{length}
 use lib.IntN.{ℤ}
@@ -19,7 +18,6 @@ use Rattle.book.proofs.Speech.{SaysNothing, ForcesFirst, Speaker, silent-of, co
 use Rattle.book.proofs.Run.{DerivedRow, DerivedRows, Additions}
 use Rattle.book.proofs.Judged.{all-judged}
 use Rattle.area.specs.Layout.{atoms-of, rows-of, theory-of}
-use Rattle.area.specs.Whole.{Whole}
 use Rattle.whole.specs.Parts.{counters}
 use Rattle.whole.proofs.Gives as gives
 use Rattle.trail_check.proofs.Few.{few}

@@ -7,7 +7,7 @@ use lib.ListN.{length, drop}
 use lib.IntN.{pos}
 use Rattle.types.specs.declared.Limits.{Limits}
 use Rattle.types.specs.declared.Counters as t
-use Rattle.book.specs.Table.{Paper, Stop, run}
+use Rattle.book.specs.Table.{Paper, run}
 use Rattle.book.specs.Book.{judged-all}
 use Rattle.area.specs.Layout.{atoms-of, level-of, rows-of, theory-of, need-of}
 use Rattle.area.specs.Whole.{Whole}

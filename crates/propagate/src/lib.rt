@@ -7,7 +7,6 @@ ghost use Rattle.types.specs.Limits.{Fitting};
 ghost use Rattle.book.specs.Table.{propagate};
 ghost use Rattle.calls.specs.Calls.{counted, Acts};
 ghost use Rattle.find.specs.Find.{Searchable};
-ghost use Rattle.find.specs.Asked.{Asked};
 ghost use Rattle.propagate.specs.Propagate.{propagated-paper, counters-of, Named, Stopped};
 ghost use Rattle.propagate.specs.Settle.{Settleable, Settled};
 

@@ -13,7 +13,7 @@ use Rattle.book.specs.Book.{Counters}
 use Rattle.area.specs.Layout.{atoms-of, length-of, rows-of}
 use Rattle.area.specs.Whole.{Whole}
 use Rattle.calls.specs.declared.Listed.{Listed}
-use Rattle.calls.specs.Calls.{area-state, listed-paper, Lists}
+use Rattle.calls.specs.Calls.{listed-paper, Lists}
 use Rattle.calls.proofs.Acting.{answered-nine, answered-whole}
 use Rattle.reports.specs.Reports.{Listing}
 use Rattle.reports.proofs.Rows.{Written, rows-size}

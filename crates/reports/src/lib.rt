@@ -37,7 +37,7 @@ fn number(x: u64) -> i64
 }
 
 // The literal of a stored word.
-fn literal(x: u64) -> i64
+pub fn literal_of(x: u64) -> i64
     ensures { λ r. ⌜ r ≡ literal-of x ⌝ }
 {
     let atom = (x / 2) as i64;
@@ -126,7 +126,7 @@ fn write_rows(area: &[u64], n: usize, rows: usize, list: &mut [i64])
 {
     let mut i: usize = 0;
     while i < rows {
-        let l = literal(area[2 * n + i]);
+        let l = literal_of(area[2 * n + i]);
         let mark = area[3 * n + i];
         write_row(list, 3 * i, l, mark % 65536, mark / 65536 % 65536);
         i += 1;

@@ -2,7 +2,7 @@
 -- open, and so on until the list is done. A conflict or a refusal ends it; the count is the sum over all turns.
 -- Assumes nothing.
 use mathlib.Core.Path.{_≡_}
-use mathlib.Core.Bool.{Bool, cond}
+use mathlib.Core.Bool.{cond}
 use mathlib.Core.List.{List, [], _∷_}
 use Prim.Native.Nat.{ℕ, _+_}
 use lib.IntN.{ℤ}

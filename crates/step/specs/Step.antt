@@ -8,7 +8,7 @@ use lib.ListN.{length, set}
 use Rattle.types.specs.declared.Limits.{Limits}
 use Rattle.types.specs.Limits.{Fitting}
 use Rattle.book.specs.Rows.{up-to}
-use Rattle.area.specs.Layout.{word, atoms-of, sentences-of, value-at, rows-from}
+use Rattle.area.specs.Layout.{word, atoms-of, value-at, rows-from}
 use Rattle.trail_check.specs.Trail.{HeaderOk, TrailOk}
 
 -- what every step asks: word 0 and the trail are right

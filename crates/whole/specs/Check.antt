@@ -10,7 +10,7 @@ use Rattle.decide.specs.Tells.{Tells}
 use Rattle.area.specs.Layout.{record-at}
 use Rattle.sentence.specs.Sentence.{Shows}
 use Rattle.theory_check.specs.Theory.{PlacesOk}
-use Rattle.whole.specs.Parts.{Matching, SentenceRight}
+use Rattle.whole.specs.Parts.{SentenceRight}
 
 -- word 0 and the places are right
 pub record SentencesAsked (lim : Limits) (w : List ℕ) (n S : ℕ) : Type 0 where

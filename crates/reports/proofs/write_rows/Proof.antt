@@ -19,20 +19,20 @@ abbrev μ-loop : tie.MeasureT-loop
 loop-holds : tie.Need-loop-holds Inv-loop μ-loop
 loop-holds c = (omega arith, none-written (c .before .args .area .now) (c .before .args .n) (c .before .args .list .now))
 
-mul-literal : tie.Need-mul-literal Inv-loop μ-loop
-mul-literal c = search needs
+mul-literal-of : tie.Need-mul-literal-of Inv-loop μ-loop
+mul-literal-of c = search needs
 
-add-literal : tie.Need-add-literal Inv-loop μ-loop
-add-literal c = search needs
+add-literal-of : tie.Need-add-literal-of Inv-loop μ-loop
+add-literal-of c = search needs
 
-mul-literal-2 : tie.Need-mul-literal-2 Inv-loop μ-loop
-mul-literal-2 c = search needs
+mul-literal-of-2 : tie.Need-mul-literal-of-2 Inv-loop μ-loop
+mul-literal-of-2 c = search needs
 
-shared-slice-read-literal : tie.Need-shared-slice-read-literal Inv-loop μ-loop
-shared-slice-read-literal c = search needs
+shared-slice-read-literal-of : tie.Need-shared-slice-read-literal-of Inv-loop μ-loop
+shared-slice-read-literal-of c = search needs
 
-literal-requires : tie.Need-literal-requires Inv-loop μ-loop
-literal-requires c κs = search needs
+literal-of-requires : tie.Need-literal-of-requires Inv-loop μ-loop
+literal-of-requires c κs = search needs
 
 mul-mark : tie.Need-mul-mark Inv-loop μ-loop
 mul-mark c = search needs
@@ -61,7 +61,7 @@ loop-less c = search needs
 
 loop-again : tie.Need-loop-again Inv-loop μ-loop
 loop-again c = let s = c .before .before .before .before .before .before .before .before .before in let p = c .before .before .before .before .before .before .before in
-    (omega arith, c .before .write-row .ensures ∙ row-written (s .args .area .now) (s .args .n) (p .loop .i) (s .args .list .now) (p .loop .list) (omega arith) (p .loop .inv .1) (toZ w64 (ofZ w64 (c .before .before .before .before .literal .result))) (toZ-ofZ w64 (c .before .before .before .before .literal .result) (search needs) ∙ c .before .before .before .before .literal .ensures))
+    (omega arith, c .before .write-row .ensures ∙ row-written (s .args .area .now) (s .args .n) (p .loop .i) (s .args .list .now) (p .loop .list) (omega arith) (p .loop .inv .1) (toZ w64 (ofZ w64 (c .before .before .before .before .literal-of .result))) (toZ-ofZ w64 (c .before .before .before .before .literal-of .result) (search needs) ∙ c .before .before .before .before .literal-of .ensures))
 
 same-length : tie.Need-same-length Inv-loop μ-loop
 same-length c = let s = c .before .before .before in let p = c .before in
@@ -78,11 +78,11 @@ write-rows-spec =
     Inv-loop
     μ-loop
     loop-holds
-    mul-literal
-    add-literal
-    mul-literal-2
-    shared-slice-read-literal
-    literal-requires
+    mul-literal-of
+    add-literal-of
+    mul-literal-of-2
+    shared-slice-read-literal-of
+    literal-of-requires
     mul-mark
     add-mark
     mul-mark-2

@@ -1,8 +1,8 @@
 -- An even word is its atom, and an odd one the atom's opposite. Assumes nothing.
 use borrow.Author.Needs.{needs}
 use Rattle.reports.proofs.Signs.{literal-true, literal-safe, literal-false}
-use Rattle.reports.proofs.literal.Statement.{statement}
-use Rattle.reports.proofs.literal.Tie as tie
+use Rattle.reports.proofs.literal_of.Statement.{statement}
+use Rattle.reports.proofs.literal_of.Tie as tie
 
 cast-atom : tie.Need-cast-atom
 cast-atom c = search needs
@@ -16,5 +16,5 @@ sub-result c = literal-safe (c .before .args .x) (c .before .fits .x)
 returns-2 : tie.Need-returns-2
 returns-2 c = literal-false (c .before .args .x) (c .before .fits .x) (c .if1 .left)
 
-pub literal-spec : {M : Type 1} → statement M
-literal-spec = tie.close (tie.spec cast-atom returns sub-result returns-2)
+pub literal-of-spec : {M : Type 1} → statement M
+literal-of-spec = tie.close (tie.spec cast-atom returns sub-result returns-2)
