@@ -60,11 +60,11 @@ module _ (w : List ℕ) (n b at old : ℕ) where
     product-next : tag-at w b % 8 ≡ 1 → product * factor w at i ≡ product-below (i + 1) (factor w at)
     product-next q = ap {A = ℕ} (λ x. x * factor w at i) (p .is q) ∙ sym (product-step i (factor w at))
 
-    pub one-passed : (r : ℕ) → atom-at w at i < 4097 → word seen (atom-at w at i) ≤ old → EntryOk w n b at i
-        → Grown (tag-at w b % 8) product (word w (at + 2 * i)) r → ¬ (r ≡ 0) → Passed w n b at old (i + 1) (set seen (atom-at w at i) (old + 1)) r
-    one-passed r a f e g z = record {
+    pub one-passed : (v r : ℕ) → v ≡ old + 1 → atom-at w at i < 4097 → word seen (atom-at w at i) ≤ old → EntryOk w n b at i
+        → Grown (tag-at w b % 8) product (word w (at + 2 * i)) r → ¬ (r ≡ 0) → Passed w n b at old (i + 1) (set seen (atom-at w at i) v) r
+    one-passed v r new a f e g z = record {
       whole = below-more (EntryOk w n b at) i (p .whole) e;
-      stamped = one-stamped (atom-at w at) old i seen (p .stamped) a f;
+      stamped = one-stamped (atom-at w at) old i seen (p .stamped) a v new f;
       low = omega arith;
       high = g .high;
       is = λ q. g .is q (omega arith) ∙ product-next q;

@@ -46,10 +46,10 @@ module _ (f : ℕ → ℕ) (old i : ℕ) (seen : List ℕ) (s : Stamped f old i 
       let k = s .back (f i) low h in
       let e = o (k .0) i (omega (arith, k .1)) l (k .2) in omega (arith, k .1)
 
-  here : word (set seen (f i) (old + 1)) (f i) ≡ old + 1
-  here = getD-set-same seen (f i) (old + 1) 0 (omega (arith, s .size))
+  module _ (v : ℕ) (new : v ≡ old + 1) (fresh : word seen (f i) ≤ old) where
+    here : word (set seen (f i) v) (f i) ≡ old + 1
+    here = getD-set-same seen (f i) v 0 (omega (arith, s .size)) ∙ new
 
-  module _ (fresh : word seen (f i) ≤ old) where
     -- an earlier entry has another atom
     other : (k : ℕ) → k < i → f k ≡ f i → ⊥
     other k l e = omega (arith, s .forth k l, ap {A = ℕ} (λ j. word seen j) e)
@@ -59,20 +59,20 @@ module _ (f : ℕ → ℕ) (old i : ℕ) (seen : List ℕ) (s : Stamped f old i 
         (λ p. same-or k i (λ q. p ∙ sym q) (λ d. absurd (other k (omega arith) (sym e ∙ ap {A = ℕ} f p))))
         (λ d. same-or k i (λ q. absurd (other j (omega arith) (e ∙ ap {A = ℕ} f q))) (λ c. s .apart j k (omega arith) (omega arith) e))
 
-    pub one-stamped : Stamped f old (i + 1) (set seen (f i) (old + 1))
+    pub one-stamped : Stamped f old (i + 1) (set seen (f i) v)
     one-stamped = record {
-      size = length-set seen (f i) (old + 1) ∙ s .size;
+      size = length-set seen (f i) v ∙ s .size;
       apart = all-apart;
       forth = λ k l. ⊎-elim
-          (λ (e : k ≡ i). ap {A = ℕ} (λ j. word (set seen (f i) (old + 1)) (f j)) e ∙ here)
-          (λ (m : k < i). getD-set-other seen (f i) (f k) (old + 1) 0 (other k m) ∙ s .forth k m)
+          (λ (e : k ≡ i). ap {A = ℕ} (λ j. word (set seen (f i) v) (f j)) e ∙ here)
+          (λ (m : k < i). getD-set-other seen (f i) (f k) v 0 (other k m) ∙ s .forth k m)
           (eq-or-lt-of-le (omega arith));
       back = λ a l h. same-or a (f i) (λ e. (i, omega arith, sym e)) (λ d.
-          let o = s .back a l (subst (λ (x : ℕ). old < x) (getD-set-other seen (f i) a (old + 1) 0 d) h) in
+          let o = s .back a l (subst (λ (x : ℕ). old < x) (getD-set-other seen (f i) a v 0 d) h) in
           (o .0, omega (arith, o .1), o .2));
       upto = λ a l. same-or a (f i)
-          (λ e. omega (arith, here, ap {A = ℕ} (λ j. word (set seen (f i) (old + 1)) j) e))
-          (λ d. omega (arith, getD-set-other seen (f i) a (old + 1) 0 d, s .upto a l));
+          (λ e. omega (arith, here, ap {A = ℕ} (λ j. word (set seen (f i) v) j) e))
+          (λ d. omega (arith, getD-set-other seen (f i) a v 0 d, s .upto a l));
     }
 
 pub stamps-upto : (f : ℕ → ℕ) (old i : ℕ) (seen : List ℕ) → Stamped f old i seen → Stamps seen (old + 1)

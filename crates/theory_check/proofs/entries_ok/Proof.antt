@@ -149,7 +149,7 @@ returns-3 c = let s = c .before .before .before .before .before .before .before 
       tells = told-no (product-past (s .args .area .now) (s .args .n) (s .args .base) (s .args .at) (s .args .old) (c .before .before .before .before .before .before .before .before .before .loop .i) (c .before .before .before .before .before .before .before .before .before .loop .seen)
           (c .before .before .before .before .before .before .before .before .before .loop .product) (c .before .before .before .before .before .before .before .before .before .loop .inv .1) _ (c .before .before .before .before .before .before .before .before .loop-test .taken) (grew (c .before)) (c .if3 .taken));
       stamps = stamps-upto (atom-at (s .args .area .now) (s .args .at)) (s .args .old) (c .before .before .before .before .before .before .before .before .before .loop .i + 1) _
-          (one-stamped (atom-at (s .args .area .now) (s .args .at)) _ _ _ (c .before .before .before .before .before .before .before .before .before .loop .inv .1 .stamped) (below (c .before .before .before .before)) (c .before .before .if2 .left));
+          (one-stamped (atom-at (s .args .area .now) (s .args .at)) _ _ _ (c .before .before .before .before .before .before .before .before .before .loop .inv .1 .stamped) (below (c .before .before .before .before)) _ (omega arith) (c .before .before .if2 .left));
     }
 
 add-i : tie.Need-add-i Inv-loop μ-loop
@@ -162,7 +162,7 @@ loop-again : tie.Need-loop-again Inv-loop μ-loop
 loop-again c = let s = c .before .before .before .before .before .before .before .before .before .before .before .before .before .before in (
   omega arith,
   one-passed (s .args .area .now) (s .args .n) (s .args .base) (s .args .at) (s .args .old) (c .before .before .before .before .before .before .before .before .before .loop .i) (c .before .before .before .before .before .before .before .before .before .loop .seen) (c .before .before .before .before .before .before .before .before .before .loop .product)
-      (c .before .before .before .before .before .before .before .before .before .loop .inv .1) _ (below (c .before .before .before .before)) (c .before .before .if2 .left) (told (c .before .before .before .before)) (grew (c .before)) (c .if3 .left),
+      (c .before .before .before .before .before .before .before .before .before .loop .inv .1) _ _ (omega arith) (below (c .before .before .before .before)) (c .before .before .if2 .left) (told (c .before .before .before .before)) (grew (c .before)) (c .if3 .left),
 )
 
 same-length-4 : tie.Need-same-length-4 Inv-loop μ-loop
