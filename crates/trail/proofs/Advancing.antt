@@ -137,6 +137,15 @@ module _ (lim : Limits) (w : List ℕ) (len level literal mark : ℕ) (a : Advan
         rest = renewed .rest;
       }
 
+-- ---- the table of the one atom
+
+-- of any size: at a size that is a numeral the list would be written out
+marked-at : (m a : ℕ) → a < m → word (set (replicate m 0) a 1) a ≡ 1
+marked-at m a h = getD-set-same (replicate m 0) a 1 0 (omega (arith, length-replicate {A = ℕ} m 0))
+
+marked-size : (m a : ℕ) → length {A = ℕ} (set (replicate m 0) a 1) ≡ m
+marked-size m a = length-set (replicate m 0) a 1 ∙ length-replicate {A = ℕ} m 0
+
 -- ---- at numbers that word 0 holds
 
 module _ (lim : Limits) (w : List ℕ) (n S len level literal mark : ℕ) (a : Advanceable lim w n S len level literal mark) where
@@ -167,6 +176,20 @@ module _ (lim : Limits) (w : List ℕ) (n S len level literal mark : ℕ) (a : A
         carried (λ m k. Refreshed (put-on w m len literal mark) w″ m k touched → Advanced lim w w″ len level literal mark)
         (advanced lim w len level literal mark own touched marked w″)
 
+  -- with the table of the one atom, of as many numbers as the code's has
+  module _ (m : ℕ) (full : m ≡ 4097) (v : List ℕ) (stored : v ≡ put-on w n len literal mark) where
+    abbrev table : List ℕ
+    table = set (replicate m 0) (literal / 2) 1
+
+    table-marked : word table (literal / 2) ≡ 1
+    table-marked = marked-at m (literal / 2) (omega (arith, full, atom-small))
+
+    pub refresh-asked : Refreshable lim v n S table
+    refresh-asked = subst (λ (x : List ℕ). Refreshable lim x n S table) (sym stored) (refresh-ready table table-marked (marked-size m (literal / 2) ∙ full))
+
+    pub advance-renewed : (w″ : List ℕ) → Refreshed v w″ n S table → Advanced lim w w″ len level literal mark
+    advance-renewed w″ r = advance-done table table-marked w″ (subst (λ (x : List ℕ). Refreshed x w″ n S table) stored r)
+
 -- ---- the rows after
 
 pub advanced-rows : (lim : Limits) (w w′ : List ℕ) (len level literal mark k : ℕ) (l : ℤ) → Advanced lim w w′ len level literal mark → literal-of literal ≡ l
@@ -174,11 +197,3 @@ pub advanced-rows : (lim : Limits) (w w′ : List ℕ) (len level literal mark k
 advanced-rows lim w w′ len level literal mark k l a e f =
     let same : level ≡ level-of w = sym (a .whole .level-is) ∙ a .level-same in
     a .rows ∙ ap {A = ℤ} (λ x. row x level (mark / 65536 % 65536) ∷ rows-of w) e ∙ ap₂ {A = ℕ} {B = ℕ} (λ v x. row l v x ∷ rows-of w) same f
-
--- ---- the table of the one atom
-
-pub table-marked : (a : ℕ) → a < 4097 → word (set (replicate 4097 0) a 1) a ≡ 1
-table-marked a h = getD-set-same (replicate 4097 0) a 1 0 (omega (arith, length-replicate {A = ℕ} 4097 0))
-
-pub table-size : (a : ℕ) → length {A = ℕ} (set (replicate 4097 0) a 1) ≡ 4097
-table-size a = length-set (replicate 4097 0) a 1 ∙ length-replicate {A = ℕ} 4097 0

@@ -1,11 +1,11 @@
 -- The four stores of `put` and the renewal of the sentences that have the one touched atom (`Advancing`).
 -- Assumes nothing.
-use mathlib.Core.Path.{sym, subst}
+use mathlib.Core.Path.{refl}
 use mathlib.Core.List.{List}
 use Prim.Native.Nat.{ℕ, _/_}
 use lib.ListN.{set, replicate}
 use Rattle.refresh.specs.Refresh.{Refreshable, Refreshed}
-use Rattle.trail.proofs.Advancing.{put-ready, atom-small, refresh-ready, advance-done, table-marked, table-size}
+use Rattle.trail.proofs.Advancing.{put-ready, refresh-asked, advance-renewed}
 use borrow.Author.Needs.{needs}
 use Rattle.trail.proofs.advance.Statement.{statement}
 use Rattle.trail.proofs.advance.Tie as tie
@@ -20,14 +20,11 @@ slice-aggregate-refresh : tie.Need-slice-aggregate-refresh
 slice-aggregate-refresh c = search needs
 
 refresh-requires : tie.Need-refresh-requires
-refresh-requires c κs = let s = c .before .before .before .before .before .before .before in
-    let w = s .args .area .now in
-    let table : List ℕ = set (replicate 4097 0) (s .args .literal / 2) 1 in
-    let small = atom-small (s .pre .0) w (s .args .n) (s .args .count) (s .args .len) (s .pre .1) (s .args .literal) (s .args .mark) (s .pre .2) in (
-      s .pre .0,
-      subst (λ v. Refreshable (s .pre .0) v (s .args .n) (s .args .count) table) (sym (c .before .before .before .before .put .ensures))
-          (refresh-ready (s .pre .0) w (s .args .n) (s .args .count) (s .args .len) (s .pre .1) (s .args .literal) (s .args .mark) (s .pre .2) table (table-marked (s .args .literal / 2) small) (table-size (s .args .literal / 2))),
-    )
+refresh-requires c κs = let s = c .before .before .before .before .before .before .before in (
+  s .pre .0,
+  refresh-asked (s .pre .0) (s .args .area .now) (s .args .n) (s .args .count) (s .args .len) (s .pre .1) (s .args .literal) (s .args .mark) (s .pre .2) 4097 refl
+      (c .before .before .before .before .put .last .0) (c .before .before .before .before .put .ensures),
+)
 
 same-length : tie.Need-same-length
 same-length c = search needs
@@ -35,12 +32,9 @@ same-length c = search needs
 returns : tie.Need-returns
 returns c = λ lim level a.
     let s = c .before .before .before .before .before .before .before .before .before .before in
-    let w = s .args .area .now in
-    let table : List ℕ = set (replicate 4097 0) (s .args .literal / 2) 1 in
-    let small = atom-small lim w (s .args .n) (s .args .count) (s .args .len) level (s .args .literal) (s .args .mark) a in
-    advance-done lim w (s .args .n) (s .args .count) (s .args .len) level (s .args .literal) (s .args .mark) a table (table-marked (s .args .literal / 2) small)
-    (c .before .before .refresh .last .0)
-    (subst (λ v. Refreshed v (c .before .before .refresh .last .0) (s .args .n) (s .args .count) table) (c .before .before .before .before .before .before .before .put .ensures) (c .before .before .refresh .ensures))
+    advance-renewed lim (s .args .area .now) (s .args .n) (s .args .count) (s .args .len) level (s .args .literal) (s .args .mark) a 4097 refl
+    (c .before .before .before .before .before .before .before .put .last .0) (c .before .before .before .before .before .before .before .put .ensures)
+    (c .before .before .refresh .last .0) (c .before .before .refresh .ensures)
 
 pub advance-spec : {M : Type 1} → statement M
 advance-spec =
