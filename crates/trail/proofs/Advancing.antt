@@ -5,8 +5,7 @@ use mathlib.Core.List.{List, _∷_}
 use Prim.Native.Nat.{ℕ, suc, _+_, _/_, _%_, _<_}
 use native.Mathlib.Omega.{arith}
 use native.Mathlib.Numerals.{add-one}
-use lib.ListN.{length, getD, set, length-set, replicate, length-replicate}
-use lib.Seq.{getD-set-same}
+use lib.ListN.{length, getD}
 use lib.IntN.{ℤ}
 use Rattle.types.specs.declared.Limits.{Limits}
 use Rattle.numbers.specs.Words.{literal-of}
@@ -137,15 +136,6 @@ module _ (lim : Limits) (w : List ℕ) (len level literal mark : ℕ) (a : Advan
         rest = renewed .rest;
       }
 
--- ---- the table of the one atom
-
--- of any size: at a size that is a numeral the list would be written out
-marked-at : (m a : ℕ) → a < m → word (set (replicate m 0) a 1) a ≡ 1
-marked-at m a h = getD-set-same (replicate m 0) a 1 0 (omega (arith, length-replicate {A = ℕ} m 0))
-
-marked-size : (m a : ℕ) → length {A = ℕ} (set (replicate m 0) a 1) ≡ m
-marked-size m a = length-set (replicate m 0) a 1 ∙ length-replicate {A = ℕ} m 0
-
 -- ---- at numbers that word 0 holds
 
 module _ (lim : Limits) (w : List ℕ) (n S len level literal mark : ℕ) (a : Advanceable lim w n S len level literal mark) where
@@ -175,20 +165,6 @@ module _ (lim : Limits) (w : List ℕ) (n S len level literal mark : ℕ) (a : A
     advance-done w″ =
         carried (λ m k. Refreshed (put-on w m len literal mark) w″ m k touched → Advanced lim w w″ len level literal mark)
         (advanced lim w len level literal mark own touched marked w″)
-
-  -- with the table of the one atom, of as many numbers as the code's has
-  module _ (m : ℕ) (full : m ≡ 4097) (v : List ℕ) (stored : v ≡ put-on w n len literal mark) where
-    abbrev table : List ℕ
-    table = set (replicate m 0) (literal / 2) 1
-
-    table-marked : word table (literal / 2) ≡ 1
-    table-marked = marked-at m (literal / 2) (omega (arith, full, atom-small))
-
-    pub refresh-asked : Refreshable lim v n S table
-    refresh-asked = subst (λ (x : List ℕ). Refreshable lim x n S table) (sym stored) (refresh-ready table table-marked (marked-size m (literal / 2) ∙ full))
-
-    pub advance-renewed : (w″ : List ℕ) → Refreshed v w″ n S table → Advanced lim w w″ len level literal mark
-    advance-renewed w″ r = advance-done table table-marked w″ (subst (λ (x : List ℕ). Refreshed x w″ n S table) stored r)
 
 -- ---- the rows after
 

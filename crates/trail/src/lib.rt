@@ -3,14 +3,26 @@ use calls::Done;
 use types::Counters;
 use types::Limits;
 ghost use mathlib.Core.Path.{_≡_};
-ghost use Prim.Native.Nat.{ℕ, _≤_};
+ghost use Prim.Native.Nat.{ℕ, _<_, _≤_};
+ghost use lib.ListN.{length};
 ghost use Rattle.types.specs.Limits.{Fitting};
 ghost use Rattle.numbers.specs.Words.{literal-word};
 ghost use Rattle.meaning.specs.Meaning.{atom};
 ghost use Rattle.book.specs.Table.{give};
+ghost use Rattle.area.specs.Layout.{word};
 ghost use Rattle.calls.specs.Calls.{counted, done-paper, Acts};
 ghost use Rattle.trail.specs.Trail.{Advanceable, Advanced};
 ghost use Rattle.trail.specs.Ready.{AdvanceReady, Usable, Ready};
+
+// A table with a mark at one atom.
+fn only(atom: usize) -> [u8; 4097]
+    requires { ⌜ atom < 4097 ⌝ }
+    ensures { λ r. ⌜ (length r ≡ 4097) × (word r atom ≡ 1) ⌝ }
+{
+    let mut touched = [0u8; 4097];
+    touched[atom] = 1;
+    touched
+}
 
 // A literal of an open atom goes on the trail of a whole area, with its level, reason and place in `mark`; the bounds of the sentences
 // that have the atom are renewed.
@@ -19,8 +31,7 @@ pub fn advance(area: &mut [u64], n: usize, count: usize, len: usize, literal: u6
     ensures { λ _. ⌜ ((lim : Limits) (level : ℕ) → Advanceable lim (now (area .entry)) n count len level literal mark → Advanced lim (now (area .entry)) (now (area .exit)) len level literal mark) ⌝ }
 {
     step::put(area, n, len, literal, mark);
-    let mut touched = [0u8; 4097];
-    touched[(literal / 2) as usize] = 1;
+    let touched = only((literal / 2) as usize);
     refresh::refresh(area, n, count, &touched);
 }
 
