@@ -9,11 +9,11 @@ use Prim.Native.String as text
 use lib.ListN.{replicate}
 use lib.IntN.{ℤ, pos, negℤ}
 use Rattle.meaning.specs.Meaning.{Entry}
-use Rattle.opb_text.specs.declared.Phase.the-variants.{AfterTerm}
-use Rattle.opb_text.specs.declared.State.{State}
-use Rattle.opb_text.specs.declared.Next.{Next}
-use Rattle.opb_text.specs.declared.Next.the-variants.{More, Term, Constraint as Passed, Fault}
-use Rattle.opb_text.specs.Grammar.{sizing, more, long-fault, v-fault, c-fault, variable-fault, expect, begin, between, relation-at-least, relation-equal, finish, place, ends}
+use Rattle.opb_bytes.specs.declared.Phase.the-variants.{AfterTerm}
+use Rattle.opb_bytes.specs.declared.State.{State}
+use Rattle.opb_bytes.specs.declared.Next.{Next}
+use Rattle.opb_bytes.specs.declared.Next.the-variants.{More, Term, Constraint as Passed, Fault}
+use Rattle.opb_bytes.specs.Grammar.{sizing, more, long-fault, v-fault, c-fault, variable-fault, expect, begin, between, relation-at-least, relation-equal, finish, place, ends}
 use Rattle.opb_text.specs.Text.{Constraint, Reading, taken, refused, go, reading}
 
 -- the bytes of a text whose characters are all of one byte

@@ -1,6 +1,4 @@
 pub mod Checks
-pub mod Table
-pub mod Sums
 pub mod Signs
 pub mod Stores
 pub mod Fronts

@@ -1,4 +1,2 @@
-pub mod Bytes
-pub mod Grammar
 pub mod Text
 pub mod States

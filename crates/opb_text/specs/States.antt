@@ -1,52 +1,18 @@
--- What the reader's inner functions rest on: what holds of every state that a text leads to, the answer from the last state, and a
--- constraint's rows as they are stored.
+-- What the reader's inner functions rest on: the answer from the last state, and a constraint's rows as they are stored.
 -- Assumes nothing.
 use mathlib.Core.Path.{_≡_}
 use mathlib.Core.Bool.{Bool, cond}
 use mathlib.Core.List.{List, [], _∷_}
-use Prim.Native.Nat.{ℕ, _+_, _-_, _≤_, _<_}
+use Prim.Native.Nat.{ℕ, _+_, _-_, _≤_}
 use lib.ListN.{length}
 use lib.Seq.{sets, slice}
 use lib.IntN.{ℤ}
 use lib.Dec.{eqb, ltb}
 use Rattle.columns.specs.Columns.{Columns, columns}
-use Rattle.opb_text.specs.declared.Phase.{Phase}
-use Rattle.opb_text.specs.declared.Phase.the-variants.{Opening, BeforeV, InV, Middle, BeforeC, InC, AfterReturn, LineStart, Between, Comment, WeightSign, InWeight, BeforeX, BeforeVariable, InVariable, AfterTerm, AfterGreater, AfterRelation, BeforeBound, BoundSign, InBound, AfterBound}
-use Rattle.opb_text.specs.declared.State.{State}
+use Rattle.opb_bytes.specs.declared.State.{State}
 use Rattle.opb_text.specs.declared.Read.{Read}
-use Rattle.opb_text.specs.Grammar.{ends}
+use Rattle.opb_bytes.specs.Grammar.{ends}
 use Rattle.opb_text.specs.Text.{signed-of, reading, nothing-read, read-of, sentence-room, entry-room}
-
--- ---- a step: no sum wraps
-
--- bytes of the fixed text that is being read, or was read last
-abbrev pub fixed : Phase → ℕ
-fixed Opening = 13
-fixed BeforeV = 14
-fixed InV = 14
-fixed Middle = 14
-fixed BeforeC = 14
-fixed InC = 14
-fixed AfterReturn = 14
-fixed LineStart = 14
-fixed Between = 14
-fixed Comment = 14
-fixed WeightSign = 14
-fixed InWeight = 14
-fixed BeforeX = 14
-fixed BeforeVariable = 14
-fixed InVariable = 14
-fixed AfterTerm = 14
-fixed AfterGreater = 14
-fixed AfterRelation = 14
-fixed BeforeBound = 14
-fixed BoundSign = 14
-fixed InBound = 14
-fixed AfterBound = 14
-
-pub record Sound (s : State) : Type 0 where
-  pub matched : s .matched < fixed (s .phase)
-  pub terms : s .counts .terms ≤ s .counts .entries
 
 -- ---- the answer at the end of the text: k constraints are complete, and there is room for so many sentences and entries
 

@@ -9,12 +9,12 @@ use lib.IntN.{ℤ, pos, negℤ}
 use lib.Dec.{eqb, ltb}
 use Rattle.meaning.specs.Meaning.{Entry}
 use Rattle.columns.specs.Columns.{Columns, columns, Written}
-use Rattle.opb_text.specs.declared.Number.{Number}
-use Rattle.opb_text.specs.declared.State.{State}
-use Rattle.opb_text.specs.declared.Next.{Next}
-use Rattle.opb_text.specs.declared.Next.the-variants as next
+use Rattle.opb_bytes.specs.declared.Number.{Number}
+use Rattle.opb_bytes.specs.declared.State.{State}
+use Rattle.opb_bytes.specs.declared.Next.{Next}
+use Rattle.opb_bytes.specs.declared.Next.the-variants as next
 use Rattle.opb_text.specs.declared.Read.{Read}
-use Rattle.opb_text.specs.Grammar.{bytes-limit, step, ends, begins}
+use Rattle.opb_bytes.specs.Grammar.{bytes-limit, step, ends, begins}
 
 -- ---- what is read
 

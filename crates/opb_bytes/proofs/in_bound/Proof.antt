@@ -1,0 +1,34 @@
+-- A digit goes on with the number; behind its last digit the number's fault comes first, then the byte.
+-- Assumes nothing.
+use mathlib.Core.Path.{sym}
+use borrow.Author.Needs.{needs}
+use borrow.Author.Tests.{eq-eqb, ne-eqb}
+use Rattle.opb_bytes.specs.Grammar.{place}
+use Rattle.opb_bytes.proofs.in_bound.Statement.{statement}
+use Rattle.opb_bytes.proofs.in_bound.Tie as tie
+
+digits-requires : tie.Need-digits-requires
+digits-requires c κs = search needs
+
+returns : tie.Need-returns
+unfolding place
+returns c = simp (c .digits .ensures, eq-eqb _ _ (c .before .if1 .taken))
+
+long-fault-requires : tie.Need-long-fault-requires
+long-fault-requires c κs = search needs
+
+returns-2 : tie.Need-returns-2
+unfolding place
+returns-2 c = simp (ne-eqb _ _ (c .if2 .taken), sym (c .before .long-fault .ensures), ne-eqb _ _ (c .before .before .if1 .left))
+
+finish-requires : tie.Need-finish-requires
+finish-requires c κs = search needs
+
+returns-3 : tie.Need-returns-3
+unfolding place
+returns-3 c = simp (c .finish .ensures, eq-eqb _ _ (c .before .if2 .left), sym (c .before .before .long-fault .ensures), ne-eqb _ _ (c .before .before .before .if1 .left))
+
+pub in-bound-spec : {M : Type 1} → statement M
+in-bound-spec =
+    tie.close
+    (tie.spec digits-requires returns long-fault-requires returns-2 finish-requires returns-3)
