@@ -14,8 +14,8 @@ use Rattle.opb_bytes.specs.declared.State.{State}
 use Rattle.opb_bytes.specs.declared.Next.{Next}
 use Rattle.opb_bytes.specs.declared.Next.the-variants as next
 use Rattle.opb_bytes.specs.Grammar.{step, ends, begins}
-use Rattle.opb_text.specs.Text.{Constraint, refused, term-of, constraint-of, turn, closing, go, reading}
 use Rattle.opb_bytes.specs.States.{Sound}
+use Rattle.opb_text.specs.Text.{Constraint, refused, term-of, constraint-of, turn, closing, go, reading}
 use Rattle.opb_text.proofs.Keeps.{Held, Kept, step-kept, begins-held}
 
 pub record Reached (text : List ℕ) (s : State) (i : ℕ) (cs : List Constraint) (es : List Entry) : Type 0 where

@@ -12,10 +12,10 @@ use Rattle.meaning.specs.Meaning.{Entry}
 use Rattle.opb_bytes.specs.declared.State.{State}
 use Rattle.opb_bytes.specs.declared.Next.{Next}
 use Rattle.opb_bytes.specs.declared.Next.the-variants as next
-use Rattle.opb_text.specs.declared.Read.{Read}
 use Rattle.opb_bytes.specs.Grammar.{step, ends, begins}
-use Rattle.opb_text.specs.Text.{Constraint, taken, refused, term-of, constraint-of, closing, reading, rows-from, all-entries, nothing-read, stored, read-of}
 use Rattle.opb_bytes.specs.States.{fixed, Sound}
+use Rattle.opb_text.specs.declared.Read.{Read}
+use Rattle.opb_text.specs.Text.{Constraint, taken, refused, term-of, constraint-of, closing, reading, rows-from, all-entries, nothing-read, stored, read-of}
 use Rattle.opb_text.specs.States.{answer-at}
 use Rattle.opb_text.proofs.Totals.{all-rows, all-row-entries}
 use Rattle.opb_text.proofs.Keeps.{About, outside, Tracks, Held}

@@ -18,10 +18,10 @@ use Rattle.columns.specs.declared.Sizes.{Sizes}
 use Rattle.opb_bytes.specs.declared.State.{State}
 use Rattle.opb_bytes.specs.declared.Next.{Next}
 use Rattle.opb_bytes.specs.declared.Next.the-variants as next
-use Rattle.opb_text.specs.declared.Read.{Read}
 use Rattle.opb_bytes.specs.Grammar.{bytes-limit, step, ends, begins}
-use Rattle.opb_text.specs.Text.{Constraint, Reading, taken, refused, signed-of, term-of, constraint-of, closing, go, reading, rows-from, all-entries, columns-of, nothing-read, read-of, over-all, result-of, sentence-room, entry-room, Reads}
 use Rattle.opb_bytes.specs.States.{fixed, Sound}
+use Rattle.opb_text.specs.declared.Read.{Read}
+use Rattle.opb_text.specs.Text.{Constraint, Reading, taken, refused, signed-of, term-of, constraint-of, closing, go, reading, rows-from, all-entries, columns-of, nothing-read, read-of, over-all, result-of, sentence-room, entry-room, Reads}
 use Rattle.opb_text.specs.States.{Decided, with-rows, Room}
 use Rattle.opb_text.proofs.Totals.{again, sentences-of, entries-of, constraints-few, all-rows, all-row-entries}
 use Rattle.opb_text.proofs.Keeps.{About, outside, Tracks}

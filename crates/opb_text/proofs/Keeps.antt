@@ -18,10 +18,10 @@ use Rattle.opb_bytes.specs.declared.Next.{Next}
 use Rattle.opb_bytes.specs.declared.Next.the-variants as next
 use Rattle.opb_bytes.specs.Grammar.{at, numbering, sizing, signed, more, long-fault, v-fault, c-fault, variable-fault, behind, opening, middle, expect, digits, begin, between, term, relation-at-least, relation-equal, finish, place, step, begins}
 use Rattle.opb_bytes.specs.Bytes.{class-of}
-use Rattle.opb_text.specs.Text.{Constraint, term-of, constraint-of}
 use Rattle.opb_bytes.specs.States.{fixed}
-use Rattle.opb_text.proofs.Totals.{made, again, sentences-of, entries-of, sentences-more, entries-more}
 use Rattle.opb_bytes.proofs.Sums.{entry-left}
+use Rattle.opb_text.specs.Text.{Constraint, term-of, constraint-of}
+use Rattle.opb_text.proofs.Totals.{made, again, sentences-of, entries-of, sentences-more, entries-more}
 
 -- what a phase says of the rest of the state: behind the relation its sentences are counted, and for `=` its terms once more; terms are
 -- read only in a constraint; V is known behind its number, and within its limit behind C

@@ -16,8 +16,8 @@ use Rattle.opb_bytes.specs.declared.State.{State}
 use Rattle.opb_bytes.specs.declared.Next.{Next}
 use Rattle.opb_bytes.specs.declared.Next.the-variants as next
 use Rattle.opb_bytes.specs.Grammar.{bytes-limit, long-fault, v-fault, c-fault, variable-fault, step, cut-off, ends, begins}
-use Rattle.opb_text.specs.Text.{Constraint, Reading, taken, refused, term-of, constraint-of, turn, closing, go, reading, rows-from, all-entries}
 use Rattle.opb_bytes.specs.States.{fixed}
+use Rattle.opb_text.specs.Text.{Constraint, Reading, taken, refused, term-of, constraint-of, turn, closing, go, reading, rows-from, all-entries}
 use Rattle.opb_text.proofs.Totals.{sentences-of, entries-of, all-rows, all-row-entries}
 use Rattle.opb_text.proofs.Keeps.{About, about, outside, Tracks, Held, Grows, Kept, step-kept, begins-held}
 

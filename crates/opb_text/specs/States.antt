@@ -10,8 +10,8 @@ use lib.IntN.{ℤ}
 use lib.Dec.{eqb, ltb}
 use Rattle.columns.specs.Columns.{Columns, columns}
 use Rattle.opb_bytes.specs.declared.State.{State}
-use Rattle.opb_text.specs.declared.Read.{Read}
 use Rattle.opb_bytes.specs.Grammar.{ends}
+use Rattle.opb_text.specs.declared.Read.{Read}
 use Rattle.opb_text.specs.Text.{signed-of, reading, nothing-read, read-of, sentence-room, entry-room}
 
 -- ---- the answer at the end of the text: k constraints are complete, and there is room for so many sentences and entries

@@ -13,8 +13,8 @@ use Rattle.opb_bytes.specs.declared.Number.{Number}
 use Rattle.opb_bytes.specs.declared.State.{State}
 use Rattle.opb_bytes.specs.declared.Next.{Next}
 use Rattle.opb_bytes.specs.declared.Next.the-variants as next
-use Rattle.opb_text.specs.declared.Read.{Read}
 use Rattle.opb_bytes.specs.Grammar.{bytes-limit, step, ends, begins}
+use Rattle.opb_text.specs.declared.Read.{Read}
 
 -- ---- what is read
 
