@@ -1,9 +1,85 @@
--- By the tests in their order. Assumes nothing.
-use mathlib.Core.Path.{sym, _∙_}
+-- By the tests in their order (`Names`). Assumes nothing.
+use mathlib.Core.Path.{_≡_, sym, _∙_}
 use borrow.Author.Needs.{needs}
+use Rattle.console_text.specs.declared.Bare.the-variants.{Open, Propagate, Trail}
+use Rattle.console_text.specs.declared.Name.the-variants as name
+use Rattle.console_text.specs.declared.OfLiteral.the-variants.{Give, Why, Origin}
+use Rattle.console_text.specs.declared.OfNumber.the-variants.{Back, Bounds, Conflict}
 use Rattle.console_text.specs.Command.{name-of}
+use Rattle.console_text.specs.Words.{Word}
+use Rattle.console_text.proofs.Names.{holds, fails, from-rule, from-give, from-open, from-propagate, from-back, from-bounds, from-why}
+use Rattle.console_text.proofs.Names.{from-conflict, from-origin, from-trail}
 use Rattle.console_text.proofs.read_name.Statement.{statement}
 use Rattle.console_text.proofs.read_name.Tie as tie
+
+-- the word, behind each test
+abbrev word-1 : tie.Else1 → Word
+word-1 c = c .before .before .before .before .args .word .now
+
+abbrev word-2 : tie.Else2 → Word
+word-2 c = word-1 (c .before .before .before)
+
+abbrev word-3 : tie.Else3 → Word
+word-3 c = word-2 (c .before .before .before)
+
+abbrev word-4 : tie.Else4 → Word
+word-4 c = word-3 (c .before .before .before)
+
+abbrev word-5 : tie.Else5 → Word
+word-5 c = word-4 (c .before .before .before)
+
+abbrev word-6 : tie.Else6 → Word
+word-6 c = word-5 (c .before .before .before)
+
+abbrev word-7 : tie.Else7 → Word
+word-7 c = word-6 (c .before .before .before)
+
+abbrev word-8 : tie.Else8 → Word
+word-8 c = word-7 (c .before .before .before)
+
+abbrev word-9 : tie.Else9 → Word
+word-9 c = word-8 (c .before .before .before)
+
+abbrev word-10 : tie.Else10 → Word
+word-10 c = word-9 (c .before .before .before)
+
+abbrev word-11 : tie.Else11 → Word
+word-11 c = word-10 (c .before .before .before)
+
+-- the names up to a test that fails are ruled out
+past-1 : (c : tie.Else1) → name-of (word-1 c) ≡ from-rule (word-1 c)
+unfolding name-of
+past-1 c = fails name.Plan (from-rule (word-1 c)) (sym (c .before .is-same .ensures) ∙ c .if1 .left)
+
+past-2 : (c : tie.Else2) → name-of (word-2 c) ≡ from-give (word-2 c)
+past-2 c = past-1 (c .before .before .before) ∙ fails name.Rule (from-give (word-2 c)) (sym (c .before .is-same2 .ensures) ∙ c .if2 .left)
+
+past-3 : (c : tie.Else3) → name-of (word-3 c) ≡ from-open (word-3 c)
+past-3 c = past-2 (c .before .before .before) ∙ fails (name.Literal Give) (from-open (word-3 c)) (sym (c .before .is-same3 .ensures) ∙ c .if3 .left)
+
+past-4 : (c : tie.Else4) → name-of (word-4 c) ≡ from-propagate (word-4 c)
+past-4 c = past-3 (c .before .before .before) ∙ fails (name.Bare Open) (from-propagate (word-4 c)) (sym (c .before .is-same4 .ensures) ∙ c .if4 .left)
+
+past-5 : (c : tie.Else5) → name-of (word-5 c) ≡ from-back (word-5 c)
+past-5 c = past-4 (c .before .before .before) ∙ fails (name.Bare Propagate) (from-back (word-5 c)) (sym (c .before .is-same5 .ensures) ∙ c .if5 .left)
+
+past-6 : (c : tie.Else6) → name-of (word-6 c) ≡ from-bounds (word-6 c)
+past-6 c = past-5 (c .before .before .before) ∙ fails (name.Number Back) (from-bounds (word-6 c)) (sym (c .before .is-same6 .ensures) ∙ c .if6 .left)
+
+past-7 : (c : tie.Else7) → name-of (word-7 c) ≡ from-why (word-7 c)
+past-7 c = past-6 (c .before .before .before) ∙ fails (name.Number Bounds) (from-why (word-7 c)) (sym (c .before .is-same7 .ensures) ∙ c .if7 .left)
+
+past-8 : (c : tie.Else8) → name-of (word-8 c) ≡ from-conflict (word-8 c)
+past-8 c = past-7 (c .before .before .before) ∙ fails (name.Literal Why) (from-conflict (word-8 c)) (sym (c .before .is-same8 .ensures) ∙ c .if8 .left)
+
+past-9 : (c : tie.Else9) → name-of (word-9 c) ≡ from-origin (word-9 c)
+past-9 c = past-8 (c .before .before .before) ∙ fails (name.Number Conflict) (from-origin (word-9 c)) (sym (c .before .is-same9 .ensures) ∙ c .if9 .left)
+
+past-10 : (c : tie.Else10) → name-of (word-10 c) ≡ from-trail (word-10 c)
+past-10 c = past-9 (c .before .before .before) ∙ fails (name.Literal Origin) (from-trail (word-10 c)) (sym (c .before .is-same10 .ensures) ∙ c .if10 .left)
+
+past-11 : (c : tie.Else11) → name-of (word-11 c) ≡ name.Unknown
+past-11 c = past-10 (c .before .before .before) ∙ fails (name.Bare Trail) name.Unknown (sym (c .before .is-same11 .ensures) ∙ c .if11 .left)
 
 slice-aggregate-is-same : tie.Need-slice-aggregate-is-same
 slice-aggregate-is-same c = search needs
@@ -13,7 +89,7 @@ is-same-requires c κs = search needs
 
 returns : tie.Need-returns
 unfolding name-of
-returns c = rw (sym (c .before .is-same .ensures) ∙ c .if1 .taken)
+returns c = sym (holds name.Plan (from-rule (c .before .before .before .before .args .word .now)) (sym (c .before .is-same .ensures) ∙ c .if1 .taken))
 
 slice-aggregate-is-same-2 : tie.Need-slice-aggregate-is-same-2
 slice-aggregate-is-same-2 c = search needs
@@ -22,9 +98,7 @@ is-same-requires-2 : tie.Need-is-same-requires-2
 is-same-requires-2 c κs = search needs
 
 returns-2 : tie.Need-returns-2
-unfolding name-of
-returns-2 c = let k4 = c .before .before .before .before in let is = k4 in
-    rw (sym (is .is-same .ensures) ∙ c .before .before .before .if1 .left, sym (c .before .is-same2 .ensures) ∙ c .if2 .taken)
+returns-2 c = let e = c .before .before .before in sym (past-1 e ∙ holds name.Rule (from-give (word-1 e)) (sym (c .before .is-same2 .ensures) ∙ c .if2 .taken))
 
 slice-aggregate-is-same-3 : tie.Need-slice-aggregate-is-same-3
 slice-aggregate-is-same-3 c = search needs
@@ -33,13 +107,7 @@ is-same-requires-3 : tie.Need-is-same-requires-3
 is-same-requires-3 c κs = search needs
 
 returns-3 : tie.Need-returns-3
-unfolding name-of
-returns-3 c = let k4 = c .before .before .before .before in let is2 = k4 in let i1 = is2 .before .before in let is = i1 .before in
-    rw (
-      sym (is .is-same .ensures) ∙ i1 .if1 .left,
-      sym (is2 .is-same2 .ensures) ∙ c .before .before .before .if2 .left,
-      sym (c .before .is-same3 .ensures) ∙ c .if3 .taken,
-    )
+returns-3 c = let e = c .before .before .before in sym (past-2 e ∙ holds (name.Literal Give) (from-open (word-2 e)) (sym (c .before .is-same3 .ensures) ∙ c .if3 .taken))
 
 slice-aggregate-is-same-4 : tie.Need-slice-aggregate-is-same-4
 slice-aggregate-is-same-4 c = search needs
@@ -48,15 +116,7 @@ is-same-requires-4 : tie.Need-is-same-requires-4
 is-same-requires-4 c κs = search needs
 
 returns-4 : tie.Need-returns-4
-unfolding name-of
-returns-4 c = let k4 = c .before .before .before .before in let is3 = k4 in let i2 = is3 .before .before in let is2 = i2 .before in
-    let i1 = is2 .before .before in let is = i1 .before in
-    rw (
-      sym (is .is-same .ensures) ∙ i1 .if1 .left,
-      sym (is2 .is-same2 .ensures) ∙ i2 .if2 .left,
-      sym (is3 .is-same3 .ensures) ∙ c .before .before .before .if3 .left,
-      sym (c .before .is-same4 .ensures) ∙ c .if4 .taken,
-    )
+returns-4 c = let e = c .before .before .before in sym (past-3 e ∙ holds (name.Bare Open) (from-propagate (word-3 e)) (sym (c .before .is-same4 .ensures) ∙ c .if4 .taken))
 
 slice-aggregate-is-same-5 : tie.Need-slice-aggregate-is-same-5
 slice-aggregate-is-same-5 c = search needs
@@ -65,16 +125,7 @@ is-same-requires-5 : tie.Need-is-same-requires-5
 is-same-requires-5 c κs = search needs
 
 returns-5 : tie.Need-returns-5
-unfolding name-of
-returns-5 c = let k4 = c .before .before .before .before in let is4 = k4 in let i3 = is4 .before .before in let is3 = i3 .before in
-    let i2 = is3 .before .before in let is2 = i2 .before in let i1 = is2 .before .before in let is = i1 .before in
-    rw (
-      sym (is .is-same .ensures) ∙ i1 .if1 .left,
-      sym (is2 .is-same2 .ensures) ∙ i2 .if2 .left,
-      sym (is3 .is-same3 .ensures) ∙ i3 .if3 .left,
-      sym (is4 .is-same4 .ensures) ∙ c .before .before .before .if4 .left,
-      sym (c .before .is-same5 .ensures) ∙ c .if5 .taken,
-    )
+returns-5 c = let e = c .before .before .before in sym (past-4 e ∙ holds (name.Bare Propagate) (from-back (word-4 e)) (sym (c .before .is-same5 .ensures) ∙ c .if5 .taken))
 
 slice-aggregate-is-same-6 : tie.Need-slice-aggregate-is-same-6
 slice-aggregate-is-same-6 c = search needs
@@ -83,18 +134,7 @@ is-same-requires-6 : tie.Need-is-same-requires-6
 is-same-requires-6 c κs = search needs
 
 returns-6 : tie.Need-returns-6
-unfolding name-of
-returns-6 c = let k4 = c .before .before .before .before in let is5 = k4 in let i4 = is5 .before .before in let is4 = i4 .before in
-    let i3 = is4 .before .before in let is3 = i3 .before in let i2 = is3 .before .before in let is2 = i2 .before in
-    let i1 = is2 .before .before in let is = i1 .before in
-    rw (
-      sym (is .is-same .ensures) ∙ i1 .if1 .left,
-      sym (is2 .is-same2 .ensures) ∙ i2 .if2 .left,
-      sym (is3 .is-same3 .ensures) ∙ i3 .if3 .left,
-      sym (is4 .is-same4 .ensures) ∙ i4 .if4 .left,
-      sym (is5 .is-same5 .ensures) ∙ c .before .before .before .if5 .left,
-      sym (c .before .is-same6 .ensures) ∙ c .if6 .taken,
-    )
+returns-6 c = let e = c .before .before .before in sym (past-5 e ∙ holds (name.Number Back) (from-bounds (word-5 e)) (sym (c .before .is-same6 .ensures) ∙ c .if6 .taken))
 
 slice-aggregate-is-same-7 : tie.Need-slice-aggregate-is-same-7
 slice-aggregate-is-same-7 c = search needs
@@ -103,19 +143,7 @@ is-same-requires-7 : tie.Need-is-same-requires-7
 is-same-requires-7 c κs = search needs
 
 returns-7 : tie.Need-returns-7
-unfolding name-of
-returns-7 c = let k4 = c .before .before .before .before in let is6 = k4 in let i5 = is6 .before .before in let is5 = i5 .before in
-    let i4 = is5 .before .before in let is4 = i4 .before in let i3 = is4 .before .before in let is3 = i3 .before in
-    let i2 = is3 .before .before in let is2 = i2 .before in let i1 = is2 .before .before in let is = i1 .before in
-    rw (
-      sym (is .is-same .ensures) ∙ i1 .if1 .left,
-      sym (is2 .is-same2 .ensures) ∙ i2 .if2 .left,
-      sym (is3 .is-same3 .ensures) ∙ i3 .if3 .left,
-      sym (is4 .is-same4 .ensures) ∙ i4 .if4 .left,
-      sym (is5 .is-same5 .ensures) ∙ i5 .if5 .left,
-      sym (is6 .is-same6 .ensures) ∙ c .before .before .before .if6 .left,
-      sym (c .before .is-same7 .ensures) ∙ c .if7 .taken,
-    )
+returns-7 c = let e = c .before .before .before in sym (past-6 e ∙ holds (name.Number Bounds) (from-why (word-6 e)) (sym (c .before .is-same7 .ensures) ∙ c .if7 .taken))
 
 slice-aggregate-is-same-8 : tie.Need-slice-aggregate-is-same-8
 slice-aggregate-is-same-8 c = search needs
@@ -124,21 +152,7 @@ is-same-requires-8 : tie.Need-is-same-requires-8
 is-same-requires-8 c κs = search needs
 
 returns-8 : tie.Need-returns-8
-unfolding name-of
-returns-8 c = let k4 = c .before .before .before .before in let is7 = k4 in let i6 = is7 .before .before in let is6 = i6 .before in
-    let i5 = is6 .before .before in let is5 = i5 .before in let i4 = is5 .before .before in let is4 = i4 .before in
-    let i3 = is4 .before .before in let is3 = i3 .before in let i2 = is3 .before .before in let is2 = i2 .before in
-    let i1 = is2 .before .before in let is = i1 .before in
-    rw (
-      sym (is .is-same .ensures) ∙ i1 .if1 .left,
-      sym (is2 .is-same2 .ensures) ∙ i2 .if2 .left,
-      sym (is3 .is-same3 .ensures) ∙ i3 .if3 .left,
-      sym (is4 .is-same4 .ensures) ∙ i4 .if4 .left,
-      sym (is5 .is-same5 .ensures) ∙ i5 .if5 .left,
-      sym (is6 .is-same6 .ensures) ∙ i6 .if6 .left,
-      sym (is7 .is-same7 .ensures) ∙ c .before .before .before .if7 .left,
-      sym (c .before .is-same8 .ensures) ∙ c .if8 .taken,
-    )
+returns-8 c = let e = c .before .before .before in sym (past-7 e ∙ holds (name.Literal Why) (from-conflict (word-7 e)) (sym (c .before .is-same8 .ensures) ∙ c .if8 .taken))
 
 slice-aggregate-is-same-9 : tie.Need-slice-aggregate-is-same-9
 slice-aggregate-is-same-9 c = search needs
@@ -147,22 +161,7 @@ is-same-requires-9 : tie.Need-is-same-requires-9
 is-same-requires-9 c κs = search needs
 
 returns-9 : tie.Need-returns-9
-unfolding name-of
-returns-9 c = let k4 = c .before .before .before .before in let is8 = k4 in let i7 = is8 .before .before in let is7 = i7 .before in
-    let i6 = is7 .before .before in let is6 = i6 .before in let i5 = is6 .before .before in let is5 = i5 .before in
-    let i4 = is5 .before .before in let is4 = i4 .before in let i3 = is4 .before .before in let is3 = i3 .before in
-    let i2 = is3 .before .before in let is2 = i2 .before in let i1 = is2 .before .before in let is = i1 .before in
-    rw (
-      sym (is .is-same .ensures) ∙ i1 .if1 .left,
-      sym (is2 .is-same2 .ensures) ∙ i2 .if2 .left,
-      sym (is3 .is-same3 .ensures) ∙ i3 .if3 .left,
-      sym (is4 .is-same4 .ensures) ∙ i4 .if4 .left,
-      sym (is5 .is-same5 .ensures) ∙ i5 .if5 .left,
-      sym (is6 .is-same6 .ensures) ∙ i6 .if6 .left,
-      sym (is7 .is-same7 .ensures) ∙ i7 .if7 .left,
-      sym (is8 .is-same8 .ensures) ∙ c .before .before .before .if8 .left,
-      sym (c .before .is-same9 .ensures) ∙ c .if9 .taken,
-    )
+returns-9 c = let e = c .before .before .before in sym (past-8 e ∙ holds (name.Number Conflict) (from-origin (word-8 e)) (sym (c .before .is-same9 .ensures) ∙ c .if9 .taken))
 
 slice-aggregate-is-same-10 : tie.Need-slice-aggregate-is-same-10
 slice-aggregate-is-same-10 c = search needs
@@ -171,24 +170,7 @@ is-same-requires-10 : tie.Need-is-same-requires-10
 is-same-requires-10 c κs = search needs
 
 returns-10 : tie.Need-returns-10
-unfolding name-of
-returns-10 c = let k4 = c .before .before .before .before in let is9 = k4 in let i8 = is9 .before .before in let is8 = i8 .before in
-    let i7 = is8 .before .before in let is7 = i7 .before in let i6 = is7 .before .before in let is6 = i6 .before in
-    let i5 = is6 .before .before in let is5 = i5 .before in let i4 = is5 .before .before in let is4 = i4 .before in
-    let i3 = is4 .before .before in let is3 = i3 .before in let i2 = is3 .before .before in let is2 = i2 .before in
-    let i1 = is2 .before .before in let is = i1 .before in
-    rw (
-      sym (is .is-same .ensures) ∙ i1 .if1 .left,
-      sym (is2 .is-same2 .ensures) ∙ i2 .if2 .left,
-      sym (is3 .is-same3 .ensures) ∙ i3 .if3 .left,
-      sym (is4 .is-same4 .ensures) ∙ i4 .if4 .left,
-      sym (is5 .is-same5 .ensures) ∙ i5 .if5 .left,
-      sym (is6 .is-same6 .ensures) ∙ i6 .if6 .left,
-      sym (is7 .is-same7 .ensures) ∙ i7 .if7 .left,
-      sym (is8 .is-same8 .ensures) ∙ i8 .if8 .left,
-      sym (is9 .is-same9 .ensures) ∙ c .before .before .before .if9 .left,
-      sym (c .before .is-same10 .ensures) ∙ c .if10 .taken,
-    )
+returns-10 c = let e = c .before .before .before in sym (past-9 e ∙ holds (name.Literal Origin) (from-trail (word-9 e)) (sym (c .before .is-same10 .ensures) ∙ c .if10 .taken))
 
 slice-aggregate-is-same-11 : tie.Need-slice-aggregate-is-same-11
 slice-aggregate-is-same-11 c = search needs
@@ -197,46 +179,10 @@ is-same-requires-11 : tie.Need-is-same-requires-11
 is-same-requires-11 c κs = search needs
 
 returns-11 : tie.Need-returns-11
-unfolding name-of
-returns-11 c = let k4 = c .before .before .before .before in let is10 = k4 in let i9 = is10 .before .before in let is9 = i9 .before in
-    let i8 = is9 .before .before in let is8 = i8 .before in let i7 = is8 .before .before in let is7 = i7 .before in
-    let i6 = is7 .before .before in let is6 = i6 .before in let i5 = is6 .before .before in let is5 = i5 .before in
-    let i4 = is5 .before .before in let is4 = i4 .before in let i3 = is4 .before .before in let is3 = i3 .before in
-    let i2 = is3 .before .before in let is2 = i2 .before in let i1 = is2 .before .before in let is = i1 .before in
-    rw (
-      sym (is .is-same .ensures) ∙ i1 .if1 .left,
-      sym (is2 .is-same2 .ensures) ∙ i2 .if2 .left,
-      sym (is3 .is-same3 .ensures) ∙ i3 .if3 .left,
-      sym (is4 .is-same4 .ensures) ∙ i4 .if4 .left,
-      sym (is5 .is-same5 .ensures) ∙ i5 .if5 .left,
-      sym (is6 .is-same6 .ensures) ∙ i6 .if6 .left,
-      sym (is7 .is-same7 .ensures) ∙ i7 .if7 .left,
-      sym (is8 .is-same8 .ensures) ∙ i8 .if8 .left,
-      sym (is9 .is-same9 .ensures) ∙ i9 .if9 .left,
-      sym (is10 .is-same10 .ensures) ∙ c .before .before .before .if10 .left,
-      sym (c .before .is-same11 .ensures) ∙ c .if11 .taken,
-    )
+returns-11 c = let e = c .before .before .before in sym (past-10 e ∙ holds (name.Bare Trail) name.Unknown (sym (c .before .is-same11 .ensures) ∙ c .if11 .taken))
 
 returns-12 : tie.Need-returns-12
-unfolding name-of
-returns-12 c = let k4 = c .before .before .before .before in let is10 = k4 in let i9 = is10 .before .before in let is9 = i9 .before in
-    let i8 = is9 .before .before in let is8 = i8 .before in let i7 = is8 .before .before in let is7 = i7 .before in
-    let i6 = is7 .before .before in let is6 = i6 .before in let i5 = is6 .before .before in let is5 = i5 .before in
-    let i4 = is5 .before .before in let is4 = i4 .before in let i3 = is4 .before .before in let is3 = i3 .before in
-    let i2 = is3 .before .before in let is2 = i2 .before in let i1 = is2 .before .before in let is = i1 .before in
-    rw (
-      sym (is .is-same .ensures) ∙ i1 .if1 .left,
-      sym (is2 .is-same2 .ensures) ∙ i2 .if2 .left,
-      sym (is3 .is-same3 .ensures) ∙ i3 .if3 .left,
-      sym (is4 .is-same4 .ensures) ∙ i4 .if4 .left,
-      sym (is5 .is-same5 .ensures) ∙ i5 .if5 .left,
-      sym (is6 .is-same6 .ensures) ∙ i6 .if6 .left,
-      sym (is7 .is-same7 .ensures) ∙ i7 .if7 .left,
-      sym (is8 .is-same8 .ensures) ∙ i8 .if8 .left,
-      sym (is9 .is-same9 .ensures) ∙ i9 .if9 .left,
-      sym (is10 .is-same10 .ensures) ∙ c .before .before .before .if10 .left,
-      sym (c .before .is-same11 .ensures) ∙ c .if11 .left,
-    )
+returns-12 c = sym (past-11 c)
 
 pub read-name-spec : {M : Type 1} → statement M
 read-name-spec =
