@@ -1,11 +1,12 @@
 -- Four words, read as they should be, and the entries behind them. Assumes nothing.
 use mathlib.Core.Path.{sym, ap, _∙_}
+use native.Mathlib.Nat.{le-of-lt}
 use mir.Syntax.{w64}
 use mir.ValLaws.{toZ-ofZ}
 use borrow.Author.Needs.{needs}
 use Rattle.console_text.specs.Command.{rule-of}
 use Rattle.console_text.specs.Cursor.{WordAt}
-use Rattle.console_text.proofs.Cursor.{found, ended, then, rule-told}
+use Rattle.console_text.proofs.Cursor.{found, ended, then, no-head, no-kind, no-side, no-bound, no-entries, rule-is}
 use Rattle.console_text.proofs.read_rule.Statement.{statement}
 use Rattle.console_text.proofs.read_rule.Tie as tie
 
@@ -33,10 +34,10 @@ next-word-requires : tie.Need-next-word-requires
 next-word-requires c κs = search needs
 
 enum-known-head-from : tie.Need-enum-known-head-from
-enum-known-head-from c = search needs
+enum-known-head-from c = c .match .keys1
 
 enum-told : tie.Need-enum-told
-enum-told c = search needs
+enum-told c = c .match .keys2
 
 returns : tie.Need-returns
 returns c = let s = c .before .before .before .before in
@@ -46,10 +47,10 @@ next-word-requires-2 : tie.Need-next-word-requires-2
 next-word-requires-2 c κs = let w = head-word c in search needs
 
 enum-known-kind-from : tie.Need-enum-known-kind-from
-enum-known-kind-from c = search needs
+enum-known-kind-from c = c .match2 .keys1
 
 enum-told-2 : tie.Need-enum-told-2
-enum-told-2 c = search needs
+enum-told-2 c = c .match2 .keys2
 
 returns-2 : tie.Need-returns-2
 returns-2 c = let hf = c .before .before .before .before in let s = hf .before .before .before .before in
@@ -60,10 +61,10 @@ next-word-requires-3 : tie.Need-next-word-requires-3
 next-word-requires-3 c κs = let w = kind-word c in search needs
 
 enum-known-side-from : tie.Need-enum-known-side-from
-enum-known-side-from c = search needs
+enum-known-side-from c = c .match3 .keys1
 
 enum-told-3 : tie.Need-enum-told-3
-enum-told-3 c = search needs
+enum-told-3 c = c .match3 .keys2
 
 returns-3 : tie.Need-returns-3
 returns-3 c = let kf = c .before .before .before .before in let k7 = kf .before .before .before in
@@ -75,10 +76,10 @@ next-word-requires-4 : tie.Need-next-word-requires-4
 next-word-requires-4 c κs = let w = side-word c in search needs
 
 enum-known-bound-from : tie.Need-enum-known-bound-from
-enum-known-bound-from c = search needs
+enum-known-bound-from c = c .match4 .keys1
 
 enum-told-4 : tie.Need-enum-told-4
-enum-told-4 c = search needs
+enum-told-4 c = c .match4 .keys2
 
 returns-4 : tie.Need-returns-4
 returns-4 c = let sf = c .before .before .before .before in let k7 = sf .before .before .before in
@@ -88,129 +89,116 @@ returns-4 c = let sf = c .before .before .before .before in let k7 = sf .before 
 
 sub-read-signed : tie.Need-sub-read-signed
 sub-read-signed c = let k12 = c .before .before .before .before .before .before .before .before .before .before .before .before in
-    let w = head-word k12 in search needs
+    le-of-lt (head-word k12 .some)
 
 part-read-signed-start : tie.Need-part-read-signed-start
 part-read-signed-start c = let k12 = c .before .before .before .before .before .before .before .before .before .before .before .before in
-    let w = head-word k12 in search needs
+    le-of-lt (head-word k12 .some)
 
 part-read-signed-end : tie.Need-part-read-signed-end
 part-read-signed-end c = let k12 = c .before .before .before .before .before .before .before .before .before .before .before .before in
-    let w = head-word k12 in search needs
+    head-word k12 .fits
 
 read-signed-requires : tie.Need-read-signed-requires
-read-signed-requires c κs = search needs
+read-signed-requires c κs = tt
 
 enum-known-head : tie.Need-enum-known-head
-enum-known-head c = search needs
+enum-known-head c = c .match5 .keys1
 
 enum-told-5 : tie.Need-enum-told-5
-enum-told-5 c = search needs
+enum-told-5 c = c .match5 .keys2
 
 returns-5 : tie.Need-returns-5
 returns-5 c = let k4 = c .before .before .before .before in let k8 = k4 .before .before .before .before in
     let k12 = k8 .before .before .before .before in let k16 = k12 .before .before .before .before in
-    sym (rule-told (head-word k16) (kind-word k12) (side-word k8) (bound-word k4) ∙ rw (sym (c .before .before .read-signed .ensures)
-    ∙ c .enum-told5 .given .1))
+    no-head (head-word k16) (kind-word k12) (side-word k8) (bound-word k4) (sym (c .before .before .read-signed .ensures) ∙ c .enum-told5 .given .1)
 
 sub-read-kind : tie.Need-sub-read-kind
 sub-read-kind c = let k13 = c .before .before .before .before .before .before .before .before .before .before .before .before .before in
-    let w = kind-word k13 in search needs
+    le-of-lt (kind-word k13 .some)
 
 part-read-kind-start : tie.Need-part-read-kind-start
 part-read-kind-start c = let k13 = c .before .before .before .before .before .before .before .before .before .before .before .before .before in
-    let w = kind-word k13 in search needs
+    le-of-lt (kind-word k13 .some)
 
 part-read-kind-end : tie.Need-part-read-kind-end
 part-read-kind-end c = let k13 = c .before .before .before .before .before .before .before .before .before .before .before .before .before in
-    let w = kind-word k13 in search needs
+    kind-word k13 .fits
 
 read-kind-requires : tie.Need-read-kind-requires
-read-kind-requires c κs = search needs
+read-kind-requires c κs = tt
 
 enum-known-kind : tie.Need-enum-known-kind
-enum-known-kind c = search needs
+enum-known-kind c = c .match6 .keys1
 
 enum-told-6 : tie.Need-enum-told-6
-enum-told-6 c = search needs
+enum-told-6 c = c .match6 .keys2
 
 returns-6 : tie.Need-returns-6
 returns-6 c = let h = c .before .before .before .before .before in let rs = h .before .before in let k9 = rs .before .before in
     let k13 = k9 .before .before .before .before in let k17 = k13 .before .before .before .before in
     let k21 = k17 .before .before .before .before in
-    sym (rule-told (head-word k21) (kind-word k17) (side-word k13) (bound-word k9) ∙ rw (
-      sym (rs .read-signed .ensures) ∙ h .head .given .1,
-      sym (c .before .before .read-kind .ensures) ∙ c .enum-told6 .given .1,
-    ))
+    no-kind (head-word k21) (kind-word k17) (side-word k13) (bound-word k9) (sym (rs .read-signed .ensures) ∙ h .head .given .1) (sym (c .before .before .read-kind .ensures) ∙ c .enum-told6 .given .1)
 
 sub-read-side : tie.Need-sub-read-side
 sub-read-side c = let k14 = c .before .before .before .before .before .before .before .before .before .before .before .before .before .before in
-    let w = side-word k14 in search needs
+    le-of-lt (side-word k14 .some)
 
 part-read-side-start : tie.Need-part-read-side-start
 part-read-side-start c = let k14 = c .before .before .before .before .before .before .before .before .before .before .before .before .before
     .before in
-    let w = side-word k14 in search needs
+    le-of-lt (side-word k14 .some)
 
 part-read-side-end : tie.Need-part-read-side-end
 part-read-side-end c = let k14 = c .before .before .before .before .before .before .before .before .before .before .before .before .before .before
     in
-    let w = side-word k14 in search needs
+    side-word k14 .fits
 
 read-side-requires : tie.Need-read-side-requires
-read-side-requires c κs = search needs
+read-side-requires c κs = tt
 
 enum-known-side : tie.Need-enum-known-side
-enum-known-side c = search needs
+enum-known-side c = c .match7 .keys1
 
 enum-told-7 : tie.Need-enum-told-7
-enum-told-7 c = search needs
+enum-told-7 c = c .match7 .keys2
 
 returns-7 : tie.Need-returns-7
 returns-7 c = let k = c .before .before .before .before .before in let rk = k .before .before in let h = rk .before .before .before in
     let rs = h .before .before in let k14 = rs .before .before in let k18 = k14 .before .before .before .before in
     let k22 = k18 .before .before .before .before in let k26 = k22 .before .before .before .before in
-    sym (rule-told (head-word k26) (kind-word k22) (side-word k18) (bound-word k14) ∙ rw (
-      sym (rs .read-signed .ensures) ∙ h .head .given .1,
-      sym (rk .read-kind .ensures) ∙ k .kind .given .1,
-      sym (c .before .before .read-side .ensures) ∙ c .enum-told7 .given .1,
-    ))
+    no-side (head-word k26) (kind-word k22) (side-word k18) (bound-word k14) (sym (rs .read-signed .ensures) ∙ h .head .given .1) (sym (rk .read-kind .ensures) ∙ k .kind .given .1) (sym (c .before .before .read-side .ensures) ∙ c .enum-told7 .given .1)
 
 sub-read-signed-2 : tie.Need-sub-read-signed-2
 sub-read-signed-2 c = let k15 = c .before .before .before .before .before .before .before .before .before .before .before .before .before .before
     .before in
-    let w = bound-word k15 in search needs
+    le-of-lt (bound-word k15 .some)
 
 part-read-signed-start-2 : tie.Need-part-read-signed-start-2
 part-read-signed-start-2 c = let k15 = c .before .before .before .before .before .before .before .before .before .before .before .before .before
     .before .before in
-    let w = bound-word k15 in search needs
+    le-of-lt (bound-word k15 .some)
 
 part-read-signed-end-2 : tie.Need-part-read-signed-end-2
 part-read-signed-end-2 c = let k15 = c .before .before .before .before .before .before .before .before .before .before .before .before .before
     .before .before in
-    let w = bound-word k15 in search needs
+    bound-word k15 .fits
 
 read-signed-requires-2 : tie.Need-read-signed-requires-2
-read-signed-requires-2 c κs = search needs
+read-signed-requires-2 c κs = tt
 
 enum-known-bound : tie.Need-enum-known-bound
-enum-known-bound c = search needs
+enum-known-bound c = c .match8 .keys1
 
 enum-told-8 : tie.Need-enum-told-8
-enum-told-8 c = search needs
+enum-told-8 c = c .match8 .keys2
 
 returns-8 : tie.Need-returns-8
 returns-8 c = let sx = c .before .before .before .before .before in let rs = sx .before .before in let k = rs .before .before .before in
     let rk = k .before .before in let h = rk .before .before .before in let rs′ = h .before .before in let k19 = rs′ .before .before in
     let k23 = k19 .before .before .before .before in let k27 = k23 .before .before .before .before in
     let k31 = k27 .before .before .before .before in
-    sym (rule-told (head-word k31) (kind-word k27) (side-word k23) (bound-word k19) ∙ rw (
-      sym (rs′ .read-signed .ensures) ∙ h .head .given .1,
-      sym (rk .read-kind .ensures) ∙ k .kind .given .1,
-      sym (rs .read-side .ensures) ∙ sx .side .given .1,
-      sym (c .before .before .read-signed2 .ensures) ∙ c .enum-told8 .given .1,
-    ))
+    no-bound (head-word k31) (kind-word k27) (side-word k23) (bound-word k19) (sym (rs′ .read-signed .ensures) ∙ h .head .given .1) (sym (rk .read-kind .ensures) ∙ k .kind .given .1) (sym (rs .read-side .ensures) ∙ sx .side .given .1) (sym (c .before .before .read-signed2 .ensures) ∙ c .enum-told8 .given .1)
 
 count-entries-requires : tie.Need-count-entries-requires
 count-entries-requires c κs = let k20 = c .before .before .before .before .before .before .before .before .before .before .before .before .before
@@ -218,23 +206,17 @@ count-entries-requires c κs = let k20 = c .before .before .before .before .befo
     let w = bound-word k20 in search needs
 
 enum-known-entries : tie.Need-enum-known-entries
-enum-known-entries c = search needs
+enum-known-entries c = c .match9 .keys1
 
 enum-told-9 : tie.Need-enum-told-9
-enum-told-9 c = search needs
+enum-told-9 c = c .match9 .keys2
 
 returns-9 : tie.Need-returns-9
 returns-9 c = let b = c .before .before .before .before in let rs2 = b .before .before in let sx = rs2 .before .before .before in
     let rs = sx .before .before in let k = rs .before .before .before in let rk = k .before .before in let h = rk .before .before .before in
     let rs′ = h .before .before in let k23 = rs′ .before .before in let k27 = k23 .before .before .before .before in
     let k31 = k27 .before .before .before .before in let k35 = k31 .before .before .before .before in
-    sym (rule-told (head-word k35) (kind-word k31) (side-word k27) (bound-word k23) ∙ rw (
-      sym (rs′ .read-signed .ensures) ∙ h .head .given .1,
-      sym (rk .read-kind .ensures) ∙ k .kind .given .1,
-      sym (rs .read-side .ensures) ∙ sx .side .given .1,
-      sym (rs2 .read-signed2 .ensures) ∙ b .bound .given .1,
-      sym (c .before .before .count-entries .ensures) ∙ c .enum-told9 .given .1,
-    ))
+    no-entries (head-word k35) (kind-word k31) (side-word k27) (bound-word k23) (sym (rs′ .read-signed .ensures) ∙ h .head .given .1) (sym (rk .read-kind .ensures) ∙ k .kind .given .1) (sym (rs .read-side .ensures) ∙ sx .side .given .1) (sym (rs2 .read-signed2 .ensures) ∙ b .bound .given .1) (sym (c .before .before .count-entries .ensures) ∙ c .enum-told9 .given .1)
 
 returns-10 : tie.Need-returns-10
 returns-10 c = let kt8 = c .before .before .before .before in let b = kt8 .before in let rs2 = b .before .before in
@@ -245,14 +227,7 @@ returns-10 c = let kt8 = c .before .before .before .before in let b = kt8 .befor
     rw (
       toZ-ofZ w64 _ (record { sfits = kt5 .known-told5 .given .0 .1 }),
       toZ-ofZ w64 _ (record { sfits = kt8 .known-told8 .given .0 .1 }),
-    ) (sym (rule-told (head-word k36) (kind-word k32) (side-word k28) (bound-word
-    k24) ∙ rw (
-      sym (rs′ .read-signed .ensures) ∙ h .head .given .1,
-      sym (rk .read-kind .ensures) ∙ k .kind .given .1,
-      sym (rs .read-side .ensures) ∙ sx .side .given .1,
-      sym (rs2 .read-signed2 .ensures) ∙ b .bound .given .1,
-      sym (c .before .before .before .count-entries .ensures) ∙ c .before .entries .given .1,
-    )))
+    ) (rule-is (head-word k36) (kind-word k32) (side-word k28) (bound-word k24) (sym (rs′ .read-signed .ensures) ∙ h .head .given .1) (sym (rk .read-kind .ensures) ∙ k .kind .given .1) (sym (rs .read-side .ensures) ∙ sx .side .given .1) (sym (rs2 .read-signed2 .ensures) ∙ b .bound .given .1) (sym (c .before .before .before .count-entries .ensures) ∙ c .before .entries .given .1))
 
 pub read-rule-spec : {M : Type 1} → statement M
 read-rule-spec =
