@@ -111,7 +111,8 @@ enum-told-5 c = c .match5 .keys2
 returns-5 : tie.Need-returns-5
 returns-5 c = let k4 = c .before .before .before .before in let k8 = k4 .before .before .before .before in
     let k12 = k8 .before .before .before .before in let k16 = k12 .before .before .before .before in
-    no-head (head-word k16) (kind-word k12) (side-word k8) (bound-word k4) (sym (c .before .before .read-signed .ensures) ∙ c .enum-told5 .given .1)
+    no-head (head-word k16) (kind-word k12) (side-word k8) (bound-word k4)
+    (sym (c .before .before .read-signed .ensures) ∙ c .enum-told5 .given .1)
 
 sub-read-kind : tie.Need-sub-read-kind
 sub-read-kind c = let k13 = c .before .before .before .before .before .before .before .before .before .before .before .before .before in
@@ -138,7 +139,8 @@ returns-6 : tie.Need-returns-6
 returns-6 c = let h = c .before .before .before .before .before in let rs = h .before .before in let k9 = rs .before .before in
     let k13 = k9 .before .before .before .before in let k17 = k13 .before .before .before .before in
     let k21 = k17 .before .before .before .before in
-    no-kind (head-word k21) (kind-word k17) (side-word k13) (bound-word k9) (sym (rs .read-signed .ensures) ∙ h .head .given .1) (sym (c .before .before .read-kind .ensures) ∙ c .enum-told6 .given .1)
+    no-kind (head-word k21) (kind-word k17) (side-word k13) (bound-word k9)
+    (sym (rs .read-signed .ensures) ∙ h .head .given .1) (sym (c .before .before .read-kind .ensures) ∙ c .enum-told6 .given .1)
 
 sub-read-side : tie.Need-sub-read-side
 sub-read-side c = let k14 = c .before .before .before .before .before .before .before .before .before .before .before .before .before .before in
@@ -167,7 +169,9 @@ returns-7 : tie.Need-returns-7
 returns-7 c = let k = c .before .before .before .before .before in let rk = k .before .before in let h = rk .before .before .before in
     let rs = h .before .before in let k14 = rs .before .before in let k18 = k14 .before .before .before .before in
     let k22 = k18 .before .before .before .before in let k26 = k22 .before .before .before .before in
-    no-side (head-word k26) (kind-word k22) (side-word k18) (bound-word k14) (sym (rs .read-signed .ensures) ∙ h .head .given .1) (sym (rk .read-kind .ensures) ∙ k .kind .given .1) (sym (c .before .before .read-side .ensures) ∙ c .enum-told7 .given .1)
+    no-side (head-word k26) (kind-word k22) (side-word k18) (bound-word k14)
+    (sym (rs .read-signed .ensures) ∙ h .head .given .1) (sym (rk .read-kind .ensures) ∙ k .kind .given .1)
+    (sym (c .before .before .read-side .ensures) ∙ c .enum-told7 .given .1)
 
 sub-read-signed-2 : tie.Need-sub-read-signed-2
 sub-read-signed-2 c = let k15 = c .before .before .before .before .before .before .before .before .before .before .before .before .before .before
@@ -198,7 +202,9 @@ returns-8 c = let sx = c .before .before .before .before .before in let rs = sx 
     let rk = k .before .before in let h = rk .before .before .before in let rs′ = h .before .before in let k19 = rs′ .before .before in
     let k23 = k19 .before .before .before .before in let k27 = k23 .before .before .before .before in
     let k31 = k27 .before .before .before .before in
-    no-bound (head-word k31) (kind-word k27) (side-word k23) (bound-word k19) (sym (rs′ .read-signed .ensures) ∙ h .head .given .1) (sym (rk .read-kind .ensures) ∙ k .kind .given .1) (sym (rs .read-side .ensures) ∙ sx .side .given .1) (sym (c .before .before .read-signed2 .ensures) ∙ c .enum-told8 .given .1)
+    no-bound (head-word k31) (kind-word k27) (side-word k23) (bound-word k19)
+    (sym (rs′ .read-signed .ensures) ∙ h .head .given .1) (sym (rk .read-kind .ensures) ∙ k .kind .given .1)
+    (sym (rs .read-side .ensures) ∙ sx .side .given .1) (sym (c .before .before .read-signed2 .ensures) ∙ c .enum-told8 .given .1)
 
 count-entries-requires : tie.Need-count-entries-requires
 count-entries-requires c κs = let k20 = c .before .before .before .before .before .before .before .before .before .before .before .before .before
@@ -216,7 +222,10 @@ returns-9 c = let b = c .before .before .before .before in let rs2 = b .before .
     let rs = sx .before .before in let k = rs .before .before .before in let rk = k .before .before in let h = rk .before .before .before in
     let rs′ = h .before .before in let k23 = rs′ .before .before in let k27 = k23 .before .before .before .before in
     let k31 = k27 .before .before .before .before in let k35 = k31 .before .before .before .before in
-    no-entries (head-word k35) (kind-word k31) (side-word k27) (bound-word k23) (sym (rs′ .read-signed .ensures) ∙ h .head .given .1) (sym (rk .read-kind .ensures) ∙ k .kind .given .1) (sym (rs .read-side .ensures) ∙ sx .side .given .1) (sym (rs2 .read-signed2 .ensures) ∙ b .bound .given .1) (sym (c .before .before .count-entries .ensures) ∙ c .enum-told9 .given .1)
+    no-entries (head-word k35) (kind-word k31) (side-word k27) (bound-word k23)
+    (sym (rs′ .read-signed .ensures) ∙ h .head .given .1) (sym (rk .read-kind .ensures) ∙ k .kind .given .1)
+    (sym (rs .read-side .ensures) ∙ sx .side .given .1) (sym (rs2 .read-signed2 .ensures) ∙ b .bound .given .1)
+    (sym (c .before .before .count-entries .ensures) ∙ c .enum-told9 .given .1)
 
 returns-10 : tie.Need-returns-10
 returns-10 c = let kt8 = c .before .before .before .before in let b = kt8 .before in let rs2 = b .before .before in
@@ -227,7 +236,10 @@ returns-10 c = let kt8 = c .before .before .before .before in let b = kt8 .befor
     rw (
       toZ-ofZ w64 _ (record { sfits = kt5 .known-told5 .given .0 .1 }),
       toZ-ofZ w64 _ (record { sfits = kt8 .known-told8 .given .0 .1 }),
-    ) (rule-is (head-word k36) (kind-word k32) (side-word k28) (bound-word k24) (sym (rs′ .read-signed .ensures) ∙ h .head .given .1) (sym (rk .read-kind .ensures) ∙ k .kind .given .1) (sym (rs .read-side .ensures) ∙ sx .side .given .1) (sym (rs2 .read-signed2 .ensures) ∙ b .bound .given .1) (sym (c .before .before .before .count-entries .ensures) ∙ c .before .entries .given .1))
+    ) (rule-is (head-word k36) (kind-word k32) (side-word k28) (bound-word k24)
+    (sym (rs′ .read-signed .ensures) ∙ h .head .given .1) (sym (rk .read-kind .ensures) ∙ k .kind .given .1)
+    (sym (rs .read-side .ensures) ∙ sx .side .given .1) (sym (rs2 .read-signed2 .ensures) ∙ b .bound .given .1)
+    (sym (c .before .before .before .count-entries .ensures) ∙ c .before .entries .given .1))
 
 pub read-rule-spec : {M : Type 1} → statement M
 read-rule-spec =
