@@ -15,46 +15,7 @@ pub trait Calls {
     fn trail(area: &[u64], length: u64, level: u64, list: &mut [i64]) -> u64;
 }
 
-extern "C" {
-    fn dalelead_load(
-        area: *mut u64,
-        area_len: usize,
-        atoms: u64,
-        heads: *const u64,
-        heads_len: usize,
-        kinds: *const u64,
-        kinds_len: usize,
-        sides: *const u64,
-        sides_len: usize,
-        bounds: *const i64,
-        bounds_len: usize,
-        counts: *const u64,
-        counts_len: usize,
-        weights: *const i64,
-        weights_len: usize,
-        literals: *const i64,
-        literals_len: usize,
-        next: *mut u64,
-        next_len: usize,
-    ) -> u64;
-    fn dalelead_give(area: *mut u64, area_len: usize, length: u64, level: u64, literal: i64, next: *mut u64, next_len: usize) -> u64;
-    fn dalelead_open(area: *mut u64, area_len: usize, length: u64, level: u64, next: *mut u64, next_len: usize) -> u64;
-    fn dalelead_take_back(area: *mut u64, area_len: usize, length: u64, level: u64, k: u64, next: *mut u64, next_len: usize) -> u64;
-    fn dalelead_propagate(area: *mut u64, area_len: usize, length: u64, level: u64, next: *mut u64, next_len: usize) -> u64;
-    fn dalelead_bounds(area: *const u64, area_len: usize, length: u64, level: u64, sentence: u64, out: *mut i64, out_len: usize) -> u64;
-    fn dalelead_explain(area: *const u64, area_len: usize, length: u64, level: u64, literal: i64, list: *mut i64, list_len: usize) -> u64;
-    fn dalelead_explain_conflict(
-        area: *const u64,
-        area_len: usize,
-        length: u64,
-        level: u64,
-        sentence: u64,
-        list: *mut i64,
-        list_len: usize,
-    ) -> u64;
-    fn dalelead_origin(area: *const u64, area_len: usize, length: u64, level: u64, literal: i64, list: *mut i64, list_len: usize) -> u64;
-    fn dalelead_trail(area: *const u64, area_len: usize, length: u64, level: u64, list: *mut i64, list_len: usize) -> u64;
-}
+include!(concat!(env!("CARGO_MANIFEST_DIR"), "/../include/dalelead.rs"));
 
 /// The static library. Every array is lent with its own length for the time of the call, and none overlaps another.
 pub struct Library;

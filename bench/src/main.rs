@@ -3,6 +3,8 @@
 mod calls;
 mod morning;
 mod plan;
+#[allow(dead_code)]
+#[path = "../../checker/src/random.rs"]
 mod random;
 mod twin;
 
