@@ -9,7 +9,6 @@
 --   4N + 8s ..          sentence s: head; kind + 8 × side + 16 × pending; bound; constant; least; greatest; entries before it;
 --                       written + 2^16 × merged entries
 --   4N + 8S + 2j ..     entry j: weight, literal; the merged ones first in each sentence's room, 0 behind them
--- Assumes nothing.
 use mathlib.Core.Bool.{Bool, cond}
 use mathlib.Core.List.{List, [], _∷_}
 use Prim.Native.Nat.{ℕ, zero, suc, _+_, _-_, _*_, _/_, _%_}

@@ -1,6 +1,5 @@
 -- When a work area is whole: the clauses of document 01's paragraph under its table, in its order, about any list of words and any
 -- counters.
--- Assumes nothing.
 use mathlib.Core.Path.{_≡_}
 use mathlib.Core.Bool.{false, not}
 use mathlib.Core.List.{List, [], _∷_}

@@ -1,7 +1,6 @@
 -- A sentence is blind outside its scope: whether it is satisfied depends only on its head and its merged entries' atoms, since the
 -- merged set has its value; and a rule read as a sentence depends only on the rule's own. So a satisfying assignment that gives the
 -- trail's literals of the scope can be turned to the whole trail.
--- Assumes nothing.
 use mathlib.Core.Path.{_≡_, refl, sym, _∙_, ap, ap₂, subst}
 use mathlib.Core.Bool.{Bool, true, false, cond}
 use mathlib.Core.Logic.{_⊎_, inl, inr}

@@ -1,5 +1,5 @@
 -- The stories, computed: with the tests on merged rules for judges, the table gives their answers, and their sentences pass the test of
--- being well-formed. This stands on the definitions alone. Assumes nothing.
+-- being well-formed. This stands on the definitions alone.
 use mathlib.Core.Path.{_≡_, refl}
 use mathlib.Core.Bool.{Bool, _&&_}
 use Prim.Native.Nat.{ℕ}

@@ -1,5 +1,5 @@
 -- The claim about document 01's examples: the book gives each story's answers, whoever judges its sentences by full assignments, since
--- all who do so give the same answers and the computed tests do so. Assumes nothing.
+-- all who do so give the same answers and the computed tests do so.
 use mathlib.Core.Path.{_∙_}
 use mathlib.Core.Bool.{Bool, _&&_}
 use Prim.Native.Nat.{ℕ, _≤_}

@@ -1,6 +1,5 @@
 -- An explanation is a clause that its sentence alone entails: an assignment that satisfies the sentence gives the literal, or makes a
 -- cause false. The causes stand on the trail, so the clause's other literals are false there.
--- Assumes nothing.
 use mathlib.Core.Path.{_≡_, refl, sym, _∙_, ap, subst}
 use mathlib.Core.Bool.{Bool, true, false, not, cond}
 use mathlib.Core.Logic.{_⊎_, inl, inr}

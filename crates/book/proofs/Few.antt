@@ -1,6 +1,5 @@
 -- No more rows than atoms: the rows are of atoms 1 to N, each once. By induction on N: leaving out one atom shortens a list of different
 -- atoms by at most one.
--- Assumes nothing.
 use mathlib.Core.Path.{_≡_, refl, sym, _∙_, ap}
 use mathlib.Core.Bool.{Bool, true, false, cond}
 use mathlib.Core.Logic.{inl, inr}

@@ -1,6 +1,5 @@
 -- The literals of a trail that pass a test, the first put on first: exactly those, in the order of the trail, and none twice where the
 -- trail has none twice.
--- Assumes nothing.
 use mathlib.Core.Path.{_≡_, refl, sym, subst}
 use mathlib.Core.Bool.{Bool, true, false, cond}
 use mathlib.Core.Logic.{_⊎_, inl, inr}

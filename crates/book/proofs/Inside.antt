@@ -1,4 +1,4 @@
--- A first forced literal is of an atom of the scope, open and forced. Assumes nothing.
+-- A first forced literal is of an atom of the scope, open and forced.
 use mathlib.Core.Path.{sym}
 use mathlib.Core.Logic.{inl, inr}
 use mathlib.Core.List.{List, [], _∷_}

@@ -1,5 +1,5 @@
 -- The computed tests on the merge of a well-formed sentence judge it as full assignments do; and its scope is of atoms 1 to N, outside
--- which it is blind. Assumes nothing.
+-- which it is blind.
 use mathlib.Core.Path.{refl}
 use mathlib.Core.List.{List, [], _∷_}
 use Prim.Native.Nat.{ℕ, _≤_}

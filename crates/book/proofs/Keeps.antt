@@ -1,5 +1,4 @@
 -- Each call keeps the rows of a book sound. A refused call and a report change nothing; what is given, taken back or derived keeps them.
--- Assumes nothing.
 use mathlib.Core.Path.{_≡_, refl}
 use mathlib.Core.List.{List, [], _∷_}
 use Prim.Native.Nat.{ℕ, zero, suc}

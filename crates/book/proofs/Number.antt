@@ -1,5 +1,4 @@
 -- The elements of a list by their numbers, counted from 1, and the atoms of a list. Each judgement has its sentence's number.
--- Assumes nothing.
 use mathlib.Core.Path.{_≡_, refl, sym, _∙_, subst}
 use mathlib.Core.Logic.{_⊎_, inl, inr}
 use mathlib.Core.List.{List, [], _∷_}

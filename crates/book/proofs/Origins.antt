@@ -1,6 +1,5 @@
 -- The origins of a literal are given literals that were put on no later than it, and it follows from them and all sentences: by
 -- induction over the rows, since a derived literal follows from its causes, which stand before it.
--- Assumes nothing.
 use mathlib.Core.Path.{_≡_, refl, sym, _∙_, ap, subst}
 use mathlib.Core.Bool.{Bool, true, false, cond}
 use mathlib.Core.Logic.{_⊎_, inl, inr}

@@ -1,6 +1,5 @@
 -- What the book's reports mean: the lists that explain, explain-conflict and origin hand back, and the two bounds. A report that is not
 -- refused has passed the table's tests, and these give what the theorems on rows ask for.
--- Assumes nothing.
 use mathlib.Core.Path.{_≡_, refl, sym, subst}
 use mathlib.Core.Bool.{Bool, true, false, not}
 use mathlib.Core.List.{List}

@@ -1,6 +1,5 @@
 -- Propagate settles: one step more than there are atoms always suffices, since every step but the last puts on an atom. So it ends at
 -- still, where every sentence is silent, or at a conflict; and what it puts on is forced by the lowest-numbered sentence that speaks.
--- Assumes nothing.
 use mathlib.Core.Path.{_≡_, refl, _∙_, ap}
 use mathlib.Core.Logic.{_⊎_, inl, inr}
 use mathlib.Core.List.{List, [], _∷_, _++_}

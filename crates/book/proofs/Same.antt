@@ -1,6 +1,5 @@
 -- The answers are determined: any two lists of judgements that are right by full assignments give the same outcome to every call.
 -- Where the trail is consistent, what a sentence says and its bounds are one thing, and the trail of a sound book is consistent.
--- Assumes nothing.
 use mathlib.Core.Path.{_≡_, refl, sym, _∙_, ap, ap₂, subst}
 use mathlib.Core.Bool.{not, cond, _&&_}
 use mathlib.Core.List.{List, [], _∷_}

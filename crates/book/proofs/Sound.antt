@@ -1,6 +1,5 @@
 -- What the rows of a book always have: literals of atoms 1 to N, each atom once, levels that do not rise going back, and every derived
 -- literal forced by its reason over the rows before it. A trail of such rows is consistent, and each step keeps them so.
--- Assumes nothing.
 use mathlib.Core.Path.{_≡_, refl, sym, _∙_, ap, subst}
 use mathlib.Core.Bool.{Bool, true, false, cond}
 use mathlib.Core.Logic.{_⊎_, inl, inr}

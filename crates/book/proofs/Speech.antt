@@ -1,6 +1,5 @@
 -- What the judgements say first is what the sentences mean: nothing where all are silent, and otherwise the conflict or the first
 -- forced literal of the lowest-numbered sentence that is not silent. By induction over the list, from the judgement of each sentence.
--- Assumes nothing.
 use mathlib.Core.Path.{_≡_, refl, subst}
 use mathlib.Core.List.{List, [], _∷_}
 use Prim.Native.Nat.{ℕ, zero, suc, _+_, _<_}

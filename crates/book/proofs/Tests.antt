@@ -1,6 +1,5 @@
 -- What the table's tests on rows tell: whether an atom or a literal is on the trail, and that a call is refused and changes nothing,
 -- or has its effect where no refusal applies.
--- Assumes nothing.
 use mathlib.Core.Path.{_≡_, refl, sym, ap, subst}
 use mathlib.Core.Bool.{Bool, true, false, not, cond, _&&_}
 use mathlib.Core.Logic.{_⊎_, inl, inr}

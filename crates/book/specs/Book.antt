@@ -1,7 +1,6 @@
 -- The book of document 01: load's N and sentences as written, a level and rows. It is fed the calls with their arguments and the
 -- lengths of their lists and of the area, and no word out of the area. Its answers are the table's, for sentences judged by full
 -- assignments.
--- Assumes nothing.
 use mathlib.Core.Path.{_≡_}
 use mathlib.Core.Bool.{Bool, not, _&&_}
 use mathlib.Core.List.{List, [], _∷_}

@@ -1,6 +1,5 @@
 -- Document 01's examples M1 to M12, and its refusals 9 to 18, as rows of one list: the sentences, the calls and the answers that must
 -- come out. proofs/Examples.antt claims of the list that the book gives these answers, whoever judges by full assignments.
--- Assumes nothing.
 use mathlib.Core.Path.{_≡_}
 use mathlib.Core.List.{List, [], _∷_}
 use Prim.Native.Nat.{ℕ}

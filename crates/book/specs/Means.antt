@@ -1,6 +1,5 @@
 -- What the reports mean, by full assignments: the bounds of a sentence, the explanation of a derived literal and of a conflict, and the
 -- origins of a literal.
--- Assumes nothing.
 use mathlib.Core.Path.{_≡_}
 use mathlib.Core.Bool.{true}
 use mathlib.Core.Logic.{_⊎_}

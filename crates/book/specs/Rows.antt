@@ -1,6 +1,5 @@
 -- The rows of the book, and what is read off them: the trail, what taking back leaves, explanations and origins
 -- (document 01, 'Steps on the trail'). Rows stand with the last put on first, so that the rows before a row are those behind it.
--- Assumes nothing.
 use mathlib.Core.Bool.{Bool, true, false, cond}
 use mathlib.Core.List.{List, [], _∷_, _++_, map}
 use Prim.Native.Nat.{ℕ, zero, suc}

@@ -1,6 +1,5 @@
 -- The table of document 01, written once: for each call the refusals with their conditions, in order, and the effect of a call that
 -- is not refused. It is a function of a `State`, what the table looks at: the book is such a state, and so is a work area.
--- Assumes nothing.
 use mathlib.Core.Bool.{Bool, true, false, not, cond, _&&_}
 use mathlib.Core.List.{List, [], _∷_, _++_}
 use Prim.Native.Nat.{ℕ, zero, suc, _-_}

@@ -1,5 +1,5 @@
 -- The ways out of a call that may change the area: 9 where it is not whole, an answer that keeps the words, and an answer that moves them.
--- What keeps does not move, so each way has one clause to show. And the two ways out of a report. Assumes nothing.
+-- What keeps does not move, so each way has one clause to show. And the two ways out of a report.
 use mathlib.Core.Path.{_≡_, refl, sym, ap, subst}
 use mathlib.Core.Bool.{not, _||_}
 use mathlib.Core.List.{List}

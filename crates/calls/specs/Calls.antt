@@ -1,6 +1,5 @@
 -- The contracts of the calls after load: document 01's table (`reply`) at the state that is read off the work area, and what happens to
 -- the words. `w` and `w′` are the words before and after, `c` the counters that the call got, `c′` those that it hands back.
--- Assumes nothing.
 use mathlib.Core.Path.{_≡_}
 use mathlib.Core.Bool.{Bool, true, false, not, _||_}
 use mathlib.Core.List.{List}

@@ -1,6 +1,5 @@
 -- What wholeness gives explanations and origins: the trail's values and the sentences can be read, and the scope of sentence number k in
 -- the table's list is that of the stored rule.
--- Assumes nothing.
 use mathlib.Core.Path.{_≡_, refl, _∙_, ap}
 use mathlib.Core.List.{List, [], _∷_}
 use Prim.Native.Nat.{ℕ, zero, suc, _<_, _≤_}

@@ -1,6 +1,5 @@
 -- The ways out of a call that writes a lent list: 9 where the area is not whole; on a whole area a refusal, which leaves the list, or the
 -- result at its front.
--- Assumes nothing.
 use mathlib.Core.Path.{_≡_, refl, sym, _∙_, ap}
 use mathlib.Core.List.{List, _++_}
 use Prim.Native.Nat.{ℕ}

@@ -1,6 +1,5 @@
 -- A sentence's atoms by place: there is one place more than merged entries, each has an atom of the area, and the causes from a place on are
 -- its own and those from the next place on.
--- Assumes nothing.
 use mathlib.Core.Path.{_≡_, refl, sym, _∙_, ap}
 use mathlib.Core.List.{List, [], _∷_}
 use Prim.Native.Nat.{ℕ, zero, suc, _+_, _*_, _-_, _/_, _<_, _≤_}

@@ -1,6 +1,5 @@
 -- Where the value word of an atom says that its literal stands: at its position, or nowhere where it is 0. Each atom stands once, so that
 -- position is the only one.
--- Assumes nothing.
 use mathlib.Core.Path.{_≡_, sym, _∙_, ap, subst}
 use mathlib.Core.List.{List}
 use Prim.Native.Nat.{ℕ, _+_, _-_, _*_, _/_, _%_, _<_, _≤_}

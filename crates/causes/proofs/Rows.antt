@@ -1,6 +1,5 @@
 -- The literals among the first rows, by their positions: the literal that `pick` finds of an atom, the row of a literal, and that a literal
 -- stands there. Each is found at the one position that has it.
--- Assumes nothing.
 use mathlib.Core.Path.{_≡_, refl, sym, _∙_, ap}
 use mathlib.Core.Bool.{Bool, true, false, cond}
 use mathlib.Core.Logic.{inl, inr, ⊎-elim}

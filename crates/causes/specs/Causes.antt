@@ -1,5 +1,4 @@
 -- Where literals stand among the first rows of the stored trail: the literal of an atom, and a literal given by a caller.
--- Assumes nothing.
 use mathlib.Core.Path.{_≡_}
 use mathlib.Core.Bool.{true, false}
 use mathlib.Core.List.{List, _∷_}

@@ -1,5 +1,4 @@
 -- What a call that writes a lent list leaves on a whole area: the table's answer, and the list after it.
--- Assumes nothing.
 use mathlib.Core.Path.{_≡_}
 use mathlib.Core.List.{List}
 use Prim.Native.Nat.{ℕ}

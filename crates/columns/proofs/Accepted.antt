@@ -1,6 +1,5 @@
 -- What an accepted load has: no refusal applies, so the columns belong together, the area is long enough and every sentence passes. The
 -- answer of the sentences from s on stays 0 as s grows, and a sentence whose code is not 0 would be the answer.
--- Assumes nothing.
 use mathlib.Core.Path.{_≡_, refl, sym, ap, _∙_}
 use mathlib.Core.Bool.{Bool, true, false}
 use Prim.Native.Nat.{ℕ, zero, suc, _+_, _<_, _≤_}

@@ -1,4 +1,4 @@
--- Load's answer by what was found: 1, else 2, else that of the sentences. Assumes nothing.
+-- Load's answer by what was found: 1, else 2, else that of the sentences.
 use mathlib.Core.Path.{_≡_, sym, ap, _∙_}
 use mathlib.Core.Bool.{Bool, true, false, not, cond, _||_}
 use Prim.Native.Nat.{ℕ, _<_, _≤_}

@@ -1,5 +1,4 @@
 -- Worked rows of load's table, which compute: each refusal and the case that just misses it. They stand on the definitions alone.
--- Assumes nothing.
 use mathlib.Core.Bool.{_&&_}
 use mathlib.Core.List.{List, [], _∷_}
 use Prim.Native.Nat.{ℕ}

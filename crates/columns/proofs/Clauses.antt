@@ -1,6 +1,5 @@
 -- The clauses of the tests, one at a time: what makes each true or false, of the machine's numbers too. A disjunction is false just where
 -- both of its sides are; a literal's atom is its size; a product does not fall where its factors are at least 1.
--- Assumes nothing.
 use mathlib.Core.Path.{_≡_, refl, sym, ap, _∙_}
 use mathlib.Core.Bool.{Bool, true, false, not, _||_, _&&_}
 use Prim.Native.Nat.{ℕ, zero, suc, _+_, _-_, _<_, _≤_}

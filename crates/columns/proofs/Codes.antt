@@ -1,5 +1,5 @@
 -- The code of a sentence is that of the first test that holds, and the answer of a list of sentences that of the first sentence whose
--- code is not 0. Assumes nothing.
+-- code is not 0.
 use mathlib.Core.Path.{_≡_, refl, ap, _∙_}
 use mathlib.Core.Bool.{Bool, true, false, cond}
 use mathlib.Core.List.{List, [], _∷_, _++_}

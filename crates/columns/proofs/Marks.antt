@@ -1,5 +1,5 @@
 -- The table of refusal 7: at each atom that was met stands its literal's mark, 1 and one more where it is negative. A literal has been met
--- negated just where the mark at its atom is the other one. Assumes nothing.
+-- negated just where the mark at its atom is the other one.
 use mathlib.Core.Path.{_≡_, refl, sym, ap, _∙_, subst}
 use mathlib.Core.Bool.{Bool, true, false}
 use mathlib.Core.List.{List}

@@ -1,6 +1,6 @@
 -- How large merged weights and constants get. Adding one entry to another adds at most its own size, so that a merged sum's weights and
 -- constant are at most the greatest size times the written entries; a factor of a product is at most the product; max and min keep one of
--- the written weights. Assumes nothing.
+-- the written weights.
 use mathlib.Core.Path.{_≡_}
 use mathlib.Core.Bool.{Bool, true, false, cond, _&&_}
 use mathlib.Core.List.{List, [], _∷_}

@@ -1,6 +1,5 @@
 -- The tests on a written sentence's entries are those over its two columns, entry by entry. Tests over the numbers below k+1 are the one
 -- at 0 and those over the numbers below k, one on; by this a list's test is that over its places.
--- Assumes nothing.
 use mathlib.Core.Path.{_≡_, refl, sym, ap, ap₂, _∙_}
 use mathlib.Core.Bool.{Bool, true, false, _||_, or-assoc, or-comm}
 use mathlib.Core.List.{List, [], _∷_}

@@ -1,5 +1,5 @@
 -- What the six tests leave of a sentence that passes, entry by entry: its literals are of atoms and not of the head, its weights fit, an
--- atom of a product, max or min has one sign, and the sentence is one that the book may hold. Assumes nothing.
+-- atom of a product, max or min has one sign, and the sentence is one that the book may hold.
 use mathlib.Core.Path.{_≡_, refl, sym, ap, subst}
 use mathlib.Core.Bool.{Bool, true, false, not, _||_, _&&_}
 use mathlib.Core.List.{List, [], _∷_}

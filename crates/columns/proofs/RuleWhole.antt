@@ -1,5 +1,5 @@
 -- A sentence that passes is merged into a rule that meets load's rules: atoms are those of written entries and distinct, and the merged
--- weights and the constant are no larger than a stored theory allows. Assumes nothing.
+-- weights and the constant are no larger than a stored theory allows.
 use mathlib.Core.Path.{_≡_, refl, sym, subst}
 use mathlib.Core.List.{List, []}
 use Prim.Native.Nat.{ℕ, _+_, _*_, _≤_}

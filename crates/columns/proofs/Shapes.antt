@@ -1,5 +1,5 @@
 -- Columns that refusal 1 leaves: they belong together, and each sentence's entries stand within the entry columns, behind those of the
--- sentences before it, since the counts add up to the entries. Assumes nothing.
+-- sentences before it, since the counts add up to the entries.
 use mathlib.Core.Path.{_≡_, refl, sym, _∙_}
 use mathlib.Core.Bool.{Bool, true, false, not, _||_}
 use Prim.Native.Nat.{ℕ, _+_, _<_, _≤_}

@@ -1,5 +1,5 @@
 -- Load's table works both ways: the code is 0 exactly where no refusal applies, and another code is that of the first refusal that
--- applies, with its sentence, since no refusal has the number 0. Assumes nothing.
+-- applies, with its sentence, since no refusal has the number 0.
 use mathlib.Core.Path.{_≡_, refl, sym, _∙_}
 use mathlib.Core.Bool.{Bool, true, false, cond}
 use mathlib.Core.List.{List, [], _∷_}

@@ -1,5 +1,5 @@
 -- The answer of the sentences from s on: that of sentence s where its code is not 0, or else that of the sentences behind it. And the
--- sentence that a turn of the loop lends, part by part, is sentence s of the columns. Assumes nothing.
+-- sentence that a turn of the loop lends, part by part, is sentence s of the columns.
 use mathlib.Core.Path.{_≡_, refl, sym, ap, _∙_}
 use mathlib.Core.List.{List, [], _∷_}
 use Prim.Native.Nat.{ℕ, zero, suc, _+_, _-_, _<_, min}

@@ -1,5 +1,5 @@
 -- The six tests of a written sentence are those over its columns: entry i is weight i with literal i, and the merged weights have the
--- product of the written ones. Assumes nothing.
+-- product of the written ones.
 use mathlib.Core.Path.{_≡_, refl, sym, ap, ap₂, _∙_}
 use mathlib.Core.Bool.{Bool, true, false, not, _||_, _&&_}
 use mathlib.Core.List.{List, [], _∷_}

@@ -1,5 +1,4 @@
 -- What load is handed: columns of plain numbers, and the sentences that they hold.
--- Assumes nothing.
 use mathlib.Core.List.{List, [], _∷_}
 use Prim.Native.Nat.{ℕ, zero, suc, _+_}
 use lib.IntN.{ℤ, pos}

@@ -1,5 +1,4 @@
 -- The tests of the refusals over the columns themselves, from entry 0 up, as the loops take them; and what a sentence is refused for.
--- Assumes nothing.
 use mathlib.Core.Path.{_≡_}
 use mathlib.Core.Bool.{Bool, false, not, _||_}
 use mathlib.Core.List.{List}

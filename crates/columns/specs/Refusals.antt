@@ -1,5 +1,4 @@
 -- The refusals of load, 1 to 8, in document 01's order: 1 and 2 first, then sentence by sentence 3 to 8.
--- Assumes nothing.
 use mathlib.Core.Bool.{Bool, false, not, cond, _||_, _&&_}
 use mathlib.Core.List.{List, [], _∷_, _++_}
 use Prim.Native.Nat.{ℕ, suc, _+_, _*_}

@@ -1,5 +1,4 @@
 -- Lines and the commands that they are, computed.
--- Assumes nothing.
 use mathlib.Core.Path.{_≡_, refl}
 use mathlib.Core.List.{[], _∷_}
 use lib.IntN.{pos, negsuc}

@@ -1,5 +1,4 @@
 -- The next word and the next entry, read off the answers.
--- Assumes nothing.
 use mathlib.Core.List.{List, [], _∷_}
 use mathlib.Core.Path.{_≡_, sym, subst, ap, _∙_}
 use Prim.Native.Nat.{ℕ, suc, _-_, _<_}

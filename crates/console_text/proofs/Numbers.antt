@@ -1,5 +1,4 @@
 -- Digits read one after the other: the value only grows, so that one past the limit stays past it.
--- Assumes nothing.
 use mathlib.Core.Bool.{Bool, true, false, cond, _&&_}
 use mathlib.Core.List.{[], _∷_}
 use mathlib.Core.Path.{_≡_, refl, sym, ap, _∙_}

@@ -1,5 +1,4 @@
 -- A rule has as many entries as its line holds, so that what is counted is what is stored.
--- Assumes nothing.
 use mathlib.Core.Path.{_≡_, refl, subst}
 use mathlib.Core.Bool.{Bool, true, false, cond}
 use mathlib.Core.List.{List, [], _∷_}

@@ -1,5 +1,4 @@
 -- Along a line: what a blank and a byte of a word make of its words; and along two words that are compared.
--- Assumes nothing.
 use mathlib.Core.Bool.{Bool, true, false, _&&_}
 use mathlib.Core.List.{List, [], _∷_, _++_}
 use mathlib.Core.Path.{_≡_, refl, ap}

@@ -1,5 +1,4 @@
 -- What the functions that go along a line promise, from the place `at` on: blanks passed over, the next word, the next entry.
--- Assumes nothing.
 use mathlib.Core.Bool.{false}
 use mathlib.Core.List.{List, [], _∷_}
 use mathlib.Core.Path.{_≡_}

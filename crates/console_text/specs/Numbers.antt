@@ -1,5 +1,4 @@
 -- The numbers that words are: digits, up to 2^64 - 1; with an optional sign, from -2^63 to 2^63 - 1.
--- Assumes nothing.
 use mathlib.Core.Bool.{Bool, true, false, cond, _&&_}
 use mathlib.Core.List.{[], _∷_}
 use Prim.Native.Nat.{ℕ, _+_, _*_, _-_}

@@ -1,5 +1,4 @@
 -- The words of a line: its runs of bytes that are not space, tab or CR.
--- Assumes nothing.
 use mathlib.Core.Bool.{Bool, true, false, cond, _&&_, _||_}
 use mathlib.Core.List.{List, [], _∷_, _++_}
 use Prim.Native.Nat.{ℕ}

@@ -1,6 +1,5 @@
 -- What each public call promises, at the limits of document 01. No call asks anything of its caller.
 -- `w` and `w′` are the words before and after, `c` the counters that the call got.
--- Assumes nothing.
 use mathlib.Core.List.{List}
 use Prim.Native.Nat.{ℕ}
 use lib.ListN.{length}

@@ -1,5 +1,5 @@
 -- The ways out of a call that changes the area and hands back numbers: the lent words are too few, the call is refused, or it is done and
--- hands back what the outcome says, since the counters after a call are those of its outcome. Assumes nothing.
+-- hands back what the outcome says, since the counters after a call are those of its outcome.
 use mathlib.Core.Path.{_≡_, refl, sym, ap, ap₂, _∙_, subst}
 use mathlib.Core.Bool.{Bool, false, not, _||_}
 use mathlib.Core.List.{List}

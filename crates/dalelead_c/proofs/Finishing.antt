@@ -1,5 +1,5 @@
 -- A call that hands back its counters is refused, or done with the counters of its outcome: taking back to the current level keeps the
--- rows, and every other such call moves the area. And propagate, which hands back the number of literals put on too. Assumes nothing.
+-- rows, and every other such call moves the area. And propagate, which hands back the number of literals put on too.
 use mathlib.Core.Path.{_≡_, refl, sym, ap, ap₂, _∙_, subst}
 use mathlib.Core.Bool.{Bool, true, false}
 use mathlib.Core.List.{List, [], _∷_}

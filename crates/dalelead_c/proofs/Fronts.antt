@@ -1,4 +1,4 @@
--- Stores at the first places of a list put their numbers in front of the rest. Assumes nothing.
+-- Stores at the first places of a list put their numbers in front of the rest.
 use mathlib.Core.Path.{_≡_, refl}
 use mathlib.Core.List.{List, [], _∷_}
 use Prim.Native.Nat.{ℕ, _≤_}

@@ -1,5 +1,5 @@
 -- Load in one number: its refusals have small codes and name one of the sentences, of which there are few once the columns have passed
--- refusal 1. Its ways out: refused, too few lent words, or loaded. Assumes nothing.
+-- refusal 1. Its ways out: refused, too few lent words, or loaded.
 use mathlib.Core.Path.{_≡_, refl, sym, ap, ap₂, _∙_, subst}
 use mathlib.Core.Bool.{Bool, true, false, cond}
 use mathlib.Core.List.{List, [], _∷_}

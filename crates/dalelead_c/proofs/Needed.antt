@@ -1,4 +1,4 @@
--- The words that an area needs, by the limits: 0 where a count is above its limit or there is no atom. Assumes nothing.
+-- The words that an area needs, by the limits: 0 where a count is above its limit or there is no atom.
 use mathlib.Core.Path.{_≡_, refl, sym, ap}
 use mathlib.Core.Bool.{Bool, true, false, cond, _&&_}
 use Prim.Native.Nat.{ℕ, _+_, _*_, _<_, _≤_}

@@ -1,5 +1,5 @@
 -- The ways out of a report: what the library's call says on the paper is the one number, and the lent words hold what it lists or the
--- marks and numbers of the bounds. Marks are small. Assumes nothing.
+-- marks and numbers of the bounds. Marks are small.
 use mathlib.Core.Path.{_≡_, refl, sym, ap, _∙_}
 use mathlib.Core.List.{List, [], _∷_}
 use Prim.Native.Nat.{ℕ, _<_, _≤_}

@@ -1,5 +1,5 @@
 -- The answer of a call whose lent words are too few, by what the call would refuse: 9 where the area is not whole, the refusal where it
--- has one, and 18 where it has none. Assumes nothing.
+-- has one, and 18 where it has none.
 use mathlib.Core.Path.{_≡_, refl, sym, ap, _∙_}
 use mathlib.Core.List.{List}
 use Prim.Native.Nat.{ℕ, zero, suc, _-_, _<_, _≤_}

@@ -1,5 +1,5 @@
 -- Codes and values are small, so that the one number of both fits a word: a conflict names one of the sentences, a list has no more numbers
--- than three for each row or a sentence's scope and one more, and load's refusals name one of the sentences. Assumes nothing.
+-- than three for each row or a sentence's scope and one more, and load's refusals name one of the sentences.
 use mathlib.Core.Path.{_≡_, refl, ap, subst}
 use mathlib.Core.Bool.{Bool, true, false, cond}
 use mathlib.Core.List.{List, [], _∷_, _++_, map}

@@ -1,5 +1,5 @@
 -- What the table's answer is in one number, read off the paper's code and values: a refusal has a code that is not 0, and every other
--- answer code 0. Assumes nothing.
+-- answer code 0.
 use mathlib.Core.Path.{_≡_, refl, sym, ap, _∙_, subst}
 use mathlib.Core.Bool.{Bool, true, false, not, cond, _||_}
 use mathlib.Core.List.{List, [], _∷_}

@@ -1,6 +1,5 @@
 -- What the inner functions promise: the answer of a call whose lent words are too few, which changes no word, and the end of a call that
 -- hands back counters.
--- Assumes nothing.
 use mathlib.Core.Path.{_≡_}
 use mathlib.Core.List.{List, [], _∷_}
 use Prim.Native.Nat.{ℕ}

@@ -1,6 +1,5 @@
 -- What the functions for C promise: the table's answer in one number, and the lent words that a call not refused writes.
 -- `w` and `w′` are the words of the area before and after, `out` and `out′` the lent words that hand back numbers.
--- Assumes nothing.
 use mathlib.Core.Path.{_≡_}
 use mathlib.Core.Bool.{Bool, not, cond, _&&_, _||_}
 use mathlib.Core.List.{List, [], _∷_, _++_}

@@ -1,5 +1,4 @@
 -- The laws of tests, sums and products over the numbers below k: none so far and one more, as loops need them.
--- Assumes nothing.
 use mathlib.Core.Path.{_≡_, refl, sym, ap, _∙_}
 use mathlib.Core.Bool.{Bool, true, false, _||_}
 use mathlib.Core.List.{List}

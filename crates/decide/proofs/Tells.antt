@@ -1,4 +1,4 @@
--- How a bool that tells of a proposition is made and used. Assumes nothing.
+-- How a bool that tells of a proposition is made and used.
 use mathlib.Core.Bool.{Bool, true, false, not}
 use mathlib.Core.Path.{_≡_, sym, ap}
 use Prim.Native.Nat.{ℕ}

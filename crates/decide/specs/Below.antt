@@ -1,5 +1,4 @@
 -- Tests, sums and products over the numbers below k, taken from 0 up, as a loop takes them.
--- Assumes nothing.
 use mathlib.Core.Bool.{Bool, false, _||_}
 use mathlib.Core.List.{List}
 use Prim.Native.Nat.{ℕ, zero, suc, _+_, _*_}

@@ -1,5 +1,4 @@
 -- A bool that tells of a proposition: true exactly when it holds.
--- Assumes nothing.
 use mathlib.Core.Bool.{Bool, true, false}
 use mathlib.Core.Path.{_≡_}
 

@@ -1,5 +1,4 @@
 -- The ways out of the two calls on a whole area once the literal, or the sentence, is found: 17, 18, or the list written.
--- Assumes nothing.
 use mathlib.Core.Path.{_≡_, sym, _∙_, ap, ap₂, subst}
 use mathlib.Core.Bool.{true, false}
 use mathlib.Core.List.{List, _∷_, _++_}

@@ -1,6 +1,5 @@
 -- A sentence of a whole area is in conflict where what it says, compared over its stored bounds, is a conflict: its stored bounds are its
 -- extremes, and the stored values are those of its trail.
--- Assumes nothing.
 use mathlib.Core.Path.{_≡_, refl, sym, _∙_, ap, subst}
 use mathlib.Core.Bool.{Bool, true, false}
 use mathlib.Core.List.{List}

@@ -1,6 +1,5 @@
 -- The negated causes from a place on: a place whose atom has a literal among the rows has one more than the next place, and another as
 -- many. So the number found so far and those from here on make up all, and so do the numbers written and those from here on.
--- Assumes nothing.
 use mathlib.Core.Path.{_≡_, refl, sym, _∙_, ap}
 use mathlib.Core.Bool.{Bool, true, false, cond}
 use mathlib.Core.List.{List, [], _∷_, _++_, map, append-nil, append-assoc}

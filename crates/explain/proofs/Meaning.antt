@@ -1,7 +1,6 @@
 -- What explain-conflict lists on a whole area: a clause that the sentence alone entails, all of whose literals are false on the trail. A
 -- stored rule is a sentence of its own, which the tests judge as full assignments do, and the trail is consistent; where the stored theory is
 -- the merge of written sentences, the clause is entailed by the written sentence.
--- Assumes nothing.
 use mathlib.Core.Path.{_≡_, refl, sym, _∙_, ap, subst}
 use mathlib.Core.Bool.{not}
 use mathlib.Core.List.{List, [], _∷_, map}

@@ -1,5 +1,5 @@
 -- The negation of a literal's word as a signed number: each number on the way fits the machine's, so that its bits, read back, are the
--- number itself. Assumes nothing.
+-- number itself.
 use mathlib.Core.Path.{_≡_, sym, _∙_, ap, subst}
 use Prim.Native.Nat.{ℕ, zero, suc, _/_, _%_, _<_}
 use native.Mathlib.Omega.{arith}

@@ -1,6 +1,5 @@
 -- The table's answers to the two calls, for a work area: the tests of the code are those of the table, and the lists are the negated causes
 -- that the code counts and writes.
--- Assumes nothing.
 use mathlib.Core.Path.{_≡_, sym, _∙_, ap, ap₂}
 use mathlib.Core.Bool.{Bool, true, false, not, _&&_}
 use mathlib.Core.List.{List, [], _∷_, map}

@@ -1,5 +1,4 @@
 -- What the parts of the explanations compute: the negated causes of a stored sentence, and whether it is in conflict.
--- Assumes nothing.
 use mathlib.Core.Path.{_≡_}
 use mathlib.Core.Bool.{Bool}
 use mathlib.Core.List.{List, _++_, map}

@@ -1,5 +1,5 @@
 -- What is found at a sentence behind silent ones: its conflict, its head, or the first open entry that turns, since the scan from an entry
--- on comes to what the whole scan says where no entry before it turns. Assumes nothing.
+-- on comes to what the whole scan says where no entry before it turns.
 use mathlib.Core.Path.{_≡_, refl, sym, _∙_, ap, subst}
 use mathlib.Core.Bool.{true, false}
 use mathlib.Core.List.{List}

@@ -1,5 +1,5 @@
 -- What an area that can be searched gives of its sentences: each can be evaluated, its stored bounds are the words of its extremes over
--- any trail that the values show, and one that is not marked has nothing to say. Assumes nothing.
+-- any trail that the values show, and one that is not marked has nothing to say.
 use mathlib.Core.Path.{_≡_, refl, sym, _∙_, subst}
 use mathlib.Core.Bool.{Bool, true, false}
 use mathlib.Core.List.{List}

@@ -1,5 +1,4 @@
 -- The table's speech from a sentence on: a silent sentence leaves it to the next, and the first that is not silent decides what is found.
--- Assumes nothing.
 use mathlib.Core.Path.{_≡_, _∙_, ap, subst}
 use mathlib.Core.List.{List}
 use Prim.Native.Nat.{ℕ, suc, _+_, _-_, _/_, _<_, _≤_}

@@ -1,5 +1,4 @@
 -- What the search asks of the area, and what is known of one sentence before its entries are scanned.
--- Assumes nothing.
 use mathlib.Core.Path.{_≡_}
 use mathlib.Core.List.{List}
 use Prim.Native.Nat.{ℕ, _≤_}

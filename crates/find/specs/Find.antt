@@ -1,5 +1,4 @@
 -- What the search for the lowest-numbered sentence that has something to say finds, and what it asks.
--- Assumes nothing.
 use mathlib.Core.Path.{_≡_}
 use mathlib.Core.List.{List}
 use Prim.Native.Nat.{ℕ, suc, _/_, _<_, _≤_}

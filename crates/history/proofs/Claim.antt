@@ -1,6 +1,6 @@
 -- The claim about every list of calls after an accepted load. The area follows the book step by step; at the end its words give the
 -- bounds, and a report on it is a report of the book, whose meaning is known. Whoever judges by full assignments, the book's answers are
--- the same. Assumes nothing.
+-- the same.
 use mathlib.Core.Path.{_≡_, refl, sym, ap, ap₂, _∙_, subst}
 use mathlib.Core.List.{List}
 use Prim.Native.Nat.{ℕ, suc, _-_, _<_}

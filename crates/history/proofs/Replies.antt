@@ -1,5 +1,5 @@
 -- What every reply of the table has, at any state: the code 0 just where the call has its effect; no list where the call lends none; 9
--- where the area is broken; and nothing changed where the call keeps the area. Assumes nothing.
+-- where the area is broken; and nothing changed where the call keeps the area.
 use mathlib.Core.Path.{_≡_, refl, ap, _∙_}
 use mathlib.Core.Bool.{Bool, true, false, cond, _||_}
 use mathlib.Core.List.{List, [], _∷_}

@@ -1,5 +1,5 @@
 -- The sentences of an accepted load: each is one that the book may hold. And an area that stores their merges needs as many words as the
--- book says, since a stored rule keeps how many entries were written. Assumes nothing.
+-- book says, since a stored rule keeps how many entries were written.
 use mathlib.Core.Path.{_≡_, refl, sym, ap, _∙_}
 use mathlib.Core.List.{List, [], _∷_}
 use Prim.Native.Nat.{ℕ, zero, suc, _+_, _<_}

@@ -1,6 +1,6 @@
 -- An area stands for the book of a load: it is whole, with the load's atoms and merged sentences, and its rows are such as calls leave.
 -- Then the area that a call gets is whole just where the counters and the length pass the book's test, and there the table looks at one
--- state, the book's or the area's. Assumes nothing.
+-- state, the book's or the area's.
 use mathlib.Core.Path.{_≡_, refl, sym, ap, ap₂, _∙_, subst}
 use mathlib.Core.Bool.{Bool, true, false, not, _&&_}
 use mathlib.Core.List.{List, _++_}

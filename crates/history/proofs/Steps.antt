@@ -1,5 +1,5 @@
 -- One call after an area that stands for the book: its answer and its list are the book's, and what it leaves stands for the book after
--- it. Then a list of calls, by induction. Assumes nothing.
+-- it. Then a list of calls, by induction.
 use mathlib.Core.Path.{_≡_, refl, sym, ap, ap₂, _∙_, subst}
 use mathlib.Core.Bool.{Bool, true, false, not, true≢false}
 use mathlib.Core.Logic.{_⊎_, inl, inr}

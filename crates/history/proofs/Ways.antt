@@ -1,5 +1,5 @@
 -- A call that keeps its public contract either acts on the area or reports. What it does where the area that it gets is not whole, and
--- where it is: 9 with nothing changed, or the table's reply at the area's own state. Assumes nothing.
+-- where it is: 9 with nothing changed, or the table's reply at the area's own state.
 use mathlib.Core.Path.{_≡_, refl, sym, ap, _∙_, subst}
 use mathlib.Core.Bool.{Bool, true, false, not, cond, _||_}
 use mathlib.Core.List.{List, []}

@@ -1,5 +1,4 @@
 -- The claim about every list of calls after an accepted load. Its steps are the public contracts; its answers are the book's.
--- Assumes nothing.
 use mathlib.Core.Path.{_≡_}
 use mathlib.Core.Bool.{cond}
 use mathlib.Core.Logic.{_⊎_}

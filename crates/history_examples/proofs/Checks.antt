@@ -1,5 +1,5 @@
 -- What the calls of the examples hand back, computed: the table's answer at the state that is read off the words which the call gets,
--- and 9 where these do not pass the test of wholeness. This stands on the definitions alone. Assumes nothing.
+-- and 9 where these do not pass the test of wholeness. This stands on the definitions alone.
 use mathlib.Core.Path.{_≡_, refl}
 use mathlib.Core.Bool.{cond}
 use mathlib.Core.List.{List, [], _∷_}

@@ -1,4 +1,4 @@
--- The claim about every list of calls holds of M11 and M12: it is proved of every list from an accepted load. Assumes nothing.
+-- The claim about every list of calls holds of M11 and M12: it is proved of every list from an accepted load.
 use mathlib.Core.Path.{refl, subst}
 use mathlib.Core.List.{List, [], _∷_}
 use Prim.Native.Nat.{ℕ}

@@ -1,5 +1,5 @@
 -- Words that pass the test of wholeness are whole, clause by clause: only this direction. And two ways of not being whole: counters that
--- are not the stored ones, and too few words. Assumes nothing.
+-- are not the stored ones, and too few words.
 use mathlib.Core.Path.{_≡_, sym, subst}
 use mathlib.Core.Bool.{Bool, true, false, not}
 use mathlib.Core.List.{List, [], _∷_}

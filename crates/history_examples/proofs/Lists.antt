@@ -1,5 +1,5 @@
 -- M11 and M12 as lists of calls from an accepted load: each call's contract holds, since its facts compute on the words. So lists of
--- calls with refusals among them exist, and the claim about every list of calls speaks of them. Assumes nothing.
+-- calls with refusals among them exist, and the claim about every list of calls speaks of them.
 use mathlib.Core.Path.{_≡_, refl, sym, _∙_, ap, subst}
 use mathlib.Core.List.{List, [], _∷_, _++_}
 use Prim.Native.Nat.{ℕ, _+_}

@@ -1,4 +1,4 @@
--- Calls on concrete words: what a contract asks, from facts that compute; and a list of calls, call by call. Assumes nothing.
+-- Calls on concrete words: what a contract asks, from facts that compute; and a list of calls, call by call.
 use mathlib.Core.Path.{_≡_, refl, sym, ap}
 use mathlib.Core.Bool.{not}
 use mathlib.Core.Logic.{inl, inr}

@@ -1,5 +1,4 @@
 -- A test of wholeness that computes on concrete words, clause by clause. Decide.antt shows that words which pass it are whole.
--- Assumes nothing.
 use mathlib.Core.Bool.{Bool, true, not, cond, _&&_}
 use mathlib.Core.List.{List, [], _∷_}
 use Prim.Native.Nat.{ℕ, zero, suc, _+_, _*_, _%_}

@@ -1,6 +1,5 @@
 -- Document 01's examples M11 and M12 as lists of calls from an accepted load, with refused calls among them: every call with the words
 -- that it gets and what it hands back, word for word. proofs/Lists.antt shows that the public contracts allow both lists.
--- Assumes nothing.
 use mathlib.Core.Path.{_≡_}
 use mathlib.Core.List.{List, [], _∷_}
 use Prim.Native.Nat.{ℕ, zero, suc}

@@ -1,6 +1,5 @@
 -- What fits a kind's range is a weight that the meaning takes: of a product, at least 1. And what a caller of `within` is told, of the
 -- bits that it passed, is so of the weight itself.
--- Assumes nothing.
 use mathlib.Core.Path.{_≡_, _∙_, ap}
 use mathlib.Core.Bool.{Bool, true, false, _&&_}
 use lib.IntN.{ℤ, pos}

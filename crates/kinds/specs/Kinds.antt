@@ -1,5 +1,4 @@
 -- The weights that a sentence of each kind may have (document 01, 'Limits': weights -10^9 to 10^9, product 1 to 10^9, count 1).
--- Assumes nothing.
 use mathlib.Core.Bool.{Bool, _&&_}
 use lib.IntN.{ℤ, pos, negsuc}
 use lib.Signed.{leZ}

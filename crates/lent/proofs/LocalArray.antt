@@ -1,5 +1,4 @@
 -- A column of 4,096 numbers that lies in a local: as what a loan takes, and back; and the struct of two such columns and a count.
--- Assumes nothing.
 use mathlib.Core.Path.{_≡_, refl, sym, ap, subst}
 use mathlib.Core.List.{List, [], _∷_, map}
 use Prim.Native.Nat.{ℕ, _<_, _^_}

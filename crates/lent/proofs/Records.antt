@@ -1,6 +1,5 @@
 -- The two columns of a list of records: each is as long as the list, grows by one record at a time, and where the list is longer than
 -- 4,096 it is what load refuses by its first number.
--- Assumes nothing.
 use mathlib.Core.Path.{_≡_, refl, sym, ap, subst, _∙_}
 use mathlib.Core.Bool.{true, not, _||_}
 use mathlib.Core.List.{List, [], _∷_, _++_}

@@ -1,6 +1,5 @@
 -- What the entries that lend structs promise, in the words of the public calls: a list of records is its two columns, and the counters
 -- after a call are read in the caller's hands.
--- Assumes nothing.
 use mathlib.Core.Path.{_≡_}
 use mathlib.Core.List.{List, [], _∷_}
 use Prim.Native.Nat.{ℕ, _≤_}

@@ -1,5 +1,5 @@
 -- What is common to the steps on levels: a whole area stands for the steps on the trail's words; a row that keeps its words keeps a right
--- reason, as the theory stays; and an area that is whole after its trail changed is what the table's outcome asks. Assumes nothing.
+-- reason, as the theory stays; and an area that is whole after its trail changed is what the table's outcome asks.
 use mathlib.Core.Path.{_≡_, refl, sym, ap, ap₂, _∙_, subst}
 use mathlib.Core.List.{List}
 use Prim.Native.Nat.{ℕ, suc, _*_, _/_, _%_, _≤_}

@@ -1,5 +1,5 @@
 -- Taking a whole area back to a lower level: the rows above it cut, the counters set and the bounds renewed leave a whole area of the same
--- theory. Kept rows keep their words, and every atom that lost its value is marked, so that its sentences are renewed. Assumes nothing.
+-- theory. Kept rows keep their words, and every atom that lost its value is marked, so that its sentences are renewed.
 use mathlib.Core.Path.{_≡_, sym, ap, _∙_, subst}
 use mathlib.Core.Bool.{Bool, true, false, not, _||_}
 use mathlib.Core.List.{List}

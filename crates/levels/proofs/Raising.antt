@@ -1,5 +1,5 @@
 -- A level more in word 0 of a whole area leaves a whole area with the same rows and theory: no other word changes, so no value does, and
--- nothing has to be renewed. Assumes nothing.
+-- nothing has to be renewed.
 use mathlib.Core.Path.{_≡_, refl, sym, ap, _∙_, subst}
 use mathlib.Core.Bool.{false, not, _||_}
 use mathlib.Core.Logic.{inl}

@@ -1,4 +1,4 @@
--- What the table says of open and take back at the state of a work area, from the test of their one refusal. Assumes nothing.
+-- What the table says of open and take back at the state of a work area, from the test of their one refusal.
 use mathlib.Core.Path.{_≡_, ap}
 use mathlib.Core.Bool.{Bool, cond}
 use mathlib.Core.List.{List}

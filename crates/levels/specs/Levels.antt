@@ -1,5 +1,4 @@
 -- What a step on levels asks once the area has been found whole.
--- Assumes nothing.
 use mathlib.Core.List.{List}
 use Prim.Native.Nat.{ℕ}
 use Rattle.types.specs.declared.Limits.{Limits}

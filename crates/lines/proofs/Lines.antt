@@ -1,5 +1,4 @@
 -- A text has room or it has not; and the forms in which the functions end.
--- Assumes nothing.
 use mathlib.Core.Bool.{true, false}
 use mathlib.Core.List.{List, [], _∷_}
 use mathlib.Core.Path.{_≡_, refl, ap, subst, _∙_}

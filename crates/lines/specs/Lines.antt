@@ -1,5 +1,4 @@
 -- Text put into a lent buffer: the buffer and the place afterwards. A text that has no room is left out, and the place stays.
--- Assumes nothing.
 use mathlib.Core.Bool.{Bool, cond}
 use mathlib.Core.List.{List, [], _∷_}
 use mathlib.Core.Path.{_≡_}

@@ -1,4 +1,4 @@
--- The limits of document 01 fit the layout. Assumes nothing.
+-- The limits of document 01 fit the layout.
 use native.Mathlib.Omega.{arith}
 use Rattle.types.specs.Limits.{base, Fitting}
 

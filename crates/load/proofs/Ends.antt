@@ -1,5 +1,5 @@
 -- An accepted load leaves a whole area: the stored sentences are whole and in their places, the trail is empty, and renewing the bounds,
--- with every atom touched, makes each sentence match the empty trail. Assumes nothing.
+-- with every atom touched, makes each sentence match the empty trail.
 use mathlib.Core.Path.{_≡_, refl, sym, ap, ap₂, _∙_}
 use mathlib.Core.Logic.{_⊎_, inl, inr}
 use mathlib.Core.List.{List, [], _∷_}

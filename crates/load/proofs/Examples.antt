@@ -1,5 +1,5 @@
 -- The words given for M4 are whole, hold its merge, and are what an accepted load of it leaves, in any area of 24 words: clause by clause
--- they compute. So a whole area with a sentence exists. Assumes nothing.
+-- they compute. So a whole area with a sentence exists.
 use mathlib.Core.Path.{_≡_, refl, sym, _∙_}
 use mathlib.Core.Bool.{true≢false}
 use mathlib.Core.List.{List, []}

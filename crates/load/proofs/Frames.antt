@@ -1,4 +1,4 @@
--- A stored sentence stays where other words change: its rule is read off its record and the words of its entries. Assumes nothing.
+-- A stored sentence stays where other words change: its rule is read off its record and the words of its entries.
 use mathlib.Core.Path.{_≡_, sym, ap, ap₂, _∙_, subst}
 use mathlib.Core.Bool.{not}
 use mathlib.Core.List.{List}

@@ -1,5 +1,5 @@
 -- A part of the area, lent and taken back: its words are the part's and all others are as before. And a slice of words that did not change
--- is the same slice. Assumes nothing.
+-- is the same slice.
 use mathlib.Core.Path.{_≡_, sym, ap, _∙_}
 use mathlib.Core.List.{List, _++_}
 use Prim.Native.Nat.{ℕ, _+_, _-_, _*_, _<_, _≤_}

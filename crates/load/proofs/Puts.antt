@@ -1,4 +1,4 @@
--- Four words written one after the other, and the front of the area cleared word by word. Assumes nothing.
+-- Four words written one after the other, and the front of the area cleared word by word.
 use mathlib.Core.Path.{_≡_, refl, ap, _∙_}
 use mathlib.Core.Logic.{⊎-elim}
 use mathlib.Core.List.{List}

@@ -1,5 +1,4 @@
 -- A stored sentence is whole and is its merge: the record's words hold what was written, and the merged entries stand behind it.
--- Assumes nothing.
 use mathlib.Core.Path.{_≡_, refl, sym, ap, _∙_, subst}
 use mathlib.Core.Bool.{not}
 use mathlib.Core.List.{List}

@@ -1,5 +1,5 @@
 -- Sentence after sentence: those stored before s stay, since each sentence's words are its own, and what a turn of the loop lends, part by
--- part, is sentence s of the columns. Assumes nothing.
+-- part, is sentence s of the columns.
 use mathlib.Core.Path.{_≡_, refl, sym, ap, _∙_, subst}
 use mathlib.Core.List.{List}
 use mathlib.Core.Logic.{⊎-elim}

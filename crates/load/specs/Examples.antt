@@ -1,5 +1,4 @@
 -- Document 01's example M4 as load is handed it (head 3, sum {(1,1),(2,2)} ≤ 1, over 3 atoms), and the 24 words that load leaves for it.
--- Assumes nothing.
 use mathlib.Core.List.{List, [], _∷_}
 use Prim.Native.Nat.{ℕ}
 use lib.IntN.{pos}

@@ -1,6 +1,5 @@
 -- What load does: document 01's refusals change nothing, and an accepted load leaves a whole area with counters 0 and 0, an empty trail,
 -- and exactly the merged theory of the columns; words past the need are not touched.
--- Assumes nothing.
 use mathlib.Core.Path.{_≡_}
 use mathlib.Core.List.{List, []}
 use Prim.Native.Nat.{ℕ}

@@ -1,6 +1,5 @@
 -- What the steps of storing ask and leave: one sentence's merged entries and record, then all sentences behind a cleared trail. Words that
 -- a step does not speak of keep what they held.
--- Assumes nothing.
 use mathlib.Core.Path.{_≡_}
 use mathlib.Core.Bool.{not}
 use mathlib.Core.List.{List}

@@ -1,5 +1,5 @@
 -- The tests of the worked examples, which compute: the conditions of the theorems (a consistent trail, an admissible sentence) and the
--- row's numbers. They stand on the definitions alone. Assumes nothing.
+-- row's numbers. They stand on the definitions alone.
 use mathlib.Core.Bool.{Bool, true, false, not, cond, _&&_}
 use mathlib.Core.List.{List, [], _∷_}
 use Prim.Native.Nat.{ℕ}

@@ -1,5 +1,4 @@
 -- Every row of specs/Examples.antt is right by full assignments: its numbers are what the computed side gives, and that is the meaning.
--- Assumes nothing.
 use mathlib.Core.Path.{subst}
 use lib.Dec.{T, leb→le}
 use Rattle.numbers.specs.Extended.{up, down}

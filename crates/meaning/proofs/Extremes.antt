@@ -1,6 +1,6 @@
 -- The extremes are the least and the greatest of a sentence's value over the full assignments that agree with a trail: each entry alone
 -- goes as far as its atom's standing lets it, and atoms are distinct, so that all entries can go so far at once.
--- One argument for every kind and both directions. Assumes nothing.
+-- One argument for every kind and both directions.
 use mathlib.Core.Path.{_≡_, refl, sym, _∙_, ap, subst}
 use mathlib.Core.Bool.{Bool, true, false, not, cond}
 use mathlib.Core.List.{List, [], _∷_}

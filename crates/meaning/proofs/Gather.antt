@@ -1,6 +1,5 @@
 -- The fold of values in which the propagator computes. A value may go in first or last, since combining is associative and commutative;
 -- so folding over all entries, with the empty value for those that are not chosen, gives the aggregate of the chosen weights.
--- Assumes nothing.
 use mathlib.Core.Path.{_≡_, refl, sym, _∙_, ap}
 use mathlib.Core.Bool.{Bool, true, false, not, cond}
 use mathlib.Core.List.{List, [], _∷_}

@@ -1,5 +1,5 @@
 -- What the atom of every written entry has, the atom of every merged entry has: members, turned entries and joined entries have atoms of
--- entries that were there. Assumes nothing.
+-- entries that were there.
 use mathlib.Core.Path.{_≡_}
 use mathlib.Core.Bool.{Bool, true, false, cond}
 use mathlib.Core.List.{List, [], _∷_}

@@ -1,5 +1,5 @@
 -- A merged set stands for the written one: it has its value under every full assignment and, for an admissible sentence, its weights
--- are fit for the kind, its atoms are distinct and none is the head's. Each step of the merge keeps that. Assumes nothing.
+-- are fit for the kind, its atoms are distinct and none is the head's. Each step of the merge keeps that.
 use mathlib.Core.Path.{_≡_, refl, sym, _∙_, ap}
 use mathlib.Core.Bool.{not}
 use mathlib.Core.List.{List, []}

@@ -1,5 +1,5 @@
 -- The entries of a merged set have distinct atoms, since two entries of one atom have one literal and are joined: after turning all
--- literals are positive, and in the kinds that turn none an atom has one sign. Assumes nothing.
+-- literals are positive, and in the kinds that turn none an atom has one sign.
 use mathlib.Core.Path.{_≡_, refl, sym, _∙_, ap}
 use mathlib.Core.Bool.{Bool, true, false, not, cond}
 use mathlib.Core.List.{List, [], _∷_}

@@ -1,4 +1,4 @@
--- A merged set has no more entries than the written one: no step adds one. Assumes nothing.
+-- A merged set has no more entries than the written one: no step adds one.
 use mathlib.Core.Path.{_≡_, refl, ap}
 use mathlib.Core.Bool.{Bool, true, false, cond}
 use mathlib.Core.List.{List, [], _∷_}

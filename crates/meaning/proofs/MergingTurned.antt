@@ -1,5 +1,5 @@
 -- Turning negative literals and dropping weight 0 keep the total. A weight w on -a gives w where a is false: that is w in the constant,
--- and -w where a is true. A weight 0 adds nothing. Assumes nothing.
+-- and -w where a is true. A weight 0 adds nothing.
 use mathlib.Core.Path.{_≡_, refl, sym, _∙_, ap}
 use mathlib.Core.Bool.{Bool, true, false, not, cond}
 use mathlib.Core.List.{List, [], _∷_}

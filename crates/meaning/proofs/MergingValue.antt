@@ -1,5 +1,5 @@
 -- Joining the entries of one literal keeps the value, whichever literals are true: two entries of one literal contribute together or not
--- at all, the weight that joins them gives what the two give, and the order of contributions does not matter. Assumes nothing.
+-- at all, the weight that joins them gives what the two give, and the order of contributions does not matter.
 use mathlib.Core.Path.{_≡_, refl, sym, _∙_, ap}
 use mathlib.Core.Bool.{Bool, true, false, cond}
 use mathlib.Core.List.{List, [], _∷_}

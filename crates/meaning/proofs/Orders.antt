@@ -1,6 +1,5 @@
 -- The laws of the order on values and of each kind's combination, once for both directions. A combination is associative and
 -- commutative, the empty value is its unit, and it is monotone (a product at natural numbers, which its weights are).
--- Assumes nothing.
 use mathlib.Core.Path.{_≡_, refl, sym, _∙_, ap, subst}
 use mathlib.Core.Bool.{Bool, true, false, not, cond}
 use lib.IntN.{ℤ, pos, _+ℤ_, _*ℤ_, +ℤ-comm, +ℤ-assoc, +ℤ-idr, one, *ℤ-comm, *ℤ-one}

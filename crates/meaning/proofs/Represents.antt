@@ -1,6 +1,5 @@
 -- When a merged set stands for a sentence's own: it has the sentence's value under every full assignment, each atom once, and not the
 -- head's. The theorems on extremes, conflicts and forced literals hold for any such set, so that the merge is proved once.
--- Assumes nothing.
 use mathlib.Core.Path.{_≡_}
 use mathlib.Core.Bool.{not}
 use mathlib.Core.List.{List, [], _∷_}

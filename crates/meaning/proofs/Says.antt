@@ -1,5 +1,5 @@
 -- What a rule says first is what its sentence says first: the scan stops at the first literal that is due, and due is open and forced;
--- past the scope nothing is forced. A sentence says one thing first. Assumes nothing.
+-- past the scope nothing is forced. A sentence says one thing first.
 use mathlib.Core.Path.{_≡_, refl, sym, _∙_, ap, subst}
 use mathlib.Core.Bool.{Bool, true, false, cond}
 use mathlib.Core.Logic.{_⊎_, inl, inr}

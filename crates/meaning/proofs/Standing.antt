@@ -1,5 +1,5 @@
 -- What a rule computes over a trail depends only on the standings of its scope's atoms: the extremes read those of the entries, the test
--- that of the head besides, and a literal put on two trails changes their standings alike. Assumes nothing.
+-- that of the head besides, and a literal put on two trails changes their standings alike.
 use mathlib.Core.Path.{_≡_, refl, _∙_, ap, ap₂, subst, sym}
 use mathlib.Core.Bool.{true, not, cond, Bool·beq, _&&_}
 use mathlib.Core.List.{List, [], _∷_}

@@ -1,6 +1,5 @@
 -- A stored rule is a sentence of its own. A constant off the bound does to the comparison what the constant on the value does, and a merged
 -- count is a sum: so the rule of a written sentence is satisfied where the sentence is, and the tests on any rule judge its sentence.
--- Assumes nothing.
 use mathlib.Core.Path.{_≡_, refl, sym, _∙_, ap, subst}
 use mathlib.Core.Bool.{Bool, true, false, not, Bool·beq}
 use mathlib.Core.List.{List, [], _∷_}

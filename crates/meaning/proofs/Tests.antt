@@ -1,4 +1,4 @@
--- What the tests of Checks.antt mean: a consistent trail, an admissible sentence, equal values. Assumes nothing.
+-- What the tests of Checks.antt mean: a consistent trail, an admissible sentence, equal values.
 use mathlib.Core.Path.{_≡_, refl, _∙_, ap, subst}
 use mathlib.Core.Bool.{Bool, true, false, not, cond, _&&_}
 use mathlib.Core.List.{List, [], _∷_}

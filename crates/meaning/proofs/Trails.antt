@@ -1,5 +1,5 @@
 -- What a trail says of a full assignment: the truths of its own atoms, and nothing of the others. So a literal of an atom that is not on
--- a consistent trail can be put on. Assumes nothing.
+-- a consistent trail can be put on.
 use mathlib.Core.Path.{_≡_, refl, sym, _∙_, ap, subst}
 use mathlib.Core.Bool.{Bool, true, false, not, cond, true≢false}
 use mathlib.Core.Logic.{_⊎_, inl, inr}

@@ -1,7 +1,6 @@
 -- When a trail conflicts with a sentence, and what it forces: exact, for a set that stands for the sentence's own and a consistent trail.
 -- A comparison keeps its truth further towards it, so that a sentence conflicts exactly where the extreme does not have the head's
 -- truth. A literal is forced exactly when its opposite, put on, conflicts: so one theorem serves the head, the entries and all other atoms.
--- Assumes nothing.
 use mathlib.Core.Path.{_≡_, refl, sym, _∙_, ap, subst}
 use mathlib.Core.Bool.{Bool, true, false, not, Bool·beq, true≢false, _&&_}
 use mathlib.Core.List.{List, _∷_}

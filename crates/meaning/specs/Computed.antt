@@ -1,6 +1,5 @@
 -- What the propagator computes of a rule over a trail: the two extremes of its value, whether it is in conflict, which literals it
 -- forces, and what it says first. The proofs of this crate tie each to the meaning.
--- Assumes nothing.
 use mathlib.Core.Bool.{Bool, true, false, not, cond, Bool·beq, _&&_}
 use mathlib.Core.List.{List, [], _∷_}
 use Prim.Native.Nat.{ℕ}

@@ -1,6 +1,5 @@
 -- Worked examples of the meaning, as rows of one list: a sentence and a trail (the last put on first), the least and greatest value and
 -- what the sentence says first. There is a row for every kind and both sides. proofs/Examples.antt claims of each row that it is so.
--- Assumes nothing.
 use mathlib.Core.List.{List, [], _∷_}
 use Prim.Native.Nat.{ℕ}
 use lib.IntN.{ℤ, pos, negℤ}

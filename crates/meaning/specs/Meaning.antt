@@ -1,6 +1,5 @@
 -- What an aggregate sentence means, over full assignments (document 01, 'Sentences and their meaning'). Nothing here is computed
 -- by the propagator: the set is the one that was written, and no bound occurs.
--- Assumes nothing.
 use mathlib.Core.Path.{_≡_}
 use mathlib.Core.Bool.{Bool, true, false, not, cond}
 use mathlib.Core.Logic.{_⊎_}

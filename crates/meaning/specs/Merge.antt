@@ -1,5 +1,4 @@
 -- The merge rules of document 01, as a function on written sets: one entry an atom, at the place of its first mention, and a constant.
--- Assumes nothing.
 use mathlib.Core.Bool.{cond}
 use mathlib.Core.List.{List, [], _∷_}
 use lib.IntN.{ℤ, pos, negsuc, negℤ, _+ℤ_, _-ℤ_, _*ℤ_}

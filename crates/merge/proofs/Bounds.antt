@@ -1,6 +1,5 @@
 -- No weight that is joined leaves the words: in sums and counts each entry adds at most 10^9 to a weight, and a product of some weights is
 -- at most the product of all, since none is below 1.
--- Assumes nothing.
 use mathlib.Core.Path.{_≡_, refl, sym, ap, _∙_}
 use mathlib.Core.Bool.{Bool, true, false, cond}
 use mathlib.Core.List.{List, [], _∷_, _++_}

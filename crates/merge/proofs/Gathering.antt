@@ -1,6 +1,5 @@
 -- One written entry more: its literal is noted; a member's turned entry is put, and what it frees goes to the constant. So the words hold the
 -- merge of the entries taken so far, since each part of the merge takes a last entry at its end.
--- Assumes nothing.
 use mathlib.Core.Path.{_≡_, refl, sym, ap, _∙_}
 use mathlib.Core.Bool.{Bool, true, false, cond, _||_}
 use mathlib.Core.List.{List, [], _∷_, _++_}

@@ -1,6 +1,5 @@
 -- The entries that the first words of a part hold: one more pair of words is one more entry at the end, and a weight that is written
 -- anew changes its entry alone.
--- Assumes nothing.
 use mathlib.Core.Path.{_≡_, refl, sym, ap, _∙_}
 use mathlib.Core.List.{List, [], _∷_, _++_}
 use Prim.Native.Nat.{ℕ, zero, suc, _+_, _*_, _≤_, _<_}

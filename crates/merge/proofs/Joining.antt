@@ -1,5 +1,4 @@
 -- The word that joins two weights: no sum, difference or product in it wraps, and it stands for the joined weight, by the kind.
--- Assumes nothing.
 use mathlib.Core.Path.{_≡_, refl, sym, ap, _∙_}
 use mathlib.Core.Bool.{true, cond}
 use Prim.Native.Nat.{ℕ, _+_, _-_, _*_, _≤_, _<_}

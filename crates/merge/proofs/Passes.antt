@@ -1,5 +1,4 @@
 -- The passes together: what is collected, sifted in sums and counts, and wiped behind is the merge.
--- Assumes nothing.
 use mathlib.Core.Path.{_≡_, refl, sym, ap, _∙_}
 use mathlib.Core.Bool.{Bool, true, false, not}
 use mathlib.Core.List.{List, []}

@@ -1,6 +1,5 @@
 -- The merge of one entry more: the members, the turned entries, the constant, the collected entries and those of weight not 0 each take
 -- it at their end. A count leaves an entry out if its literal was mentioned before.
--- Assumes nothing.
 use mathlib.Core.Path.{_≡_, refl, sym, ap, _∙_}
 use mathlib.Core.Bool.{Bool, true, false, not, cond, _||_}
 use mathlib.Core.List.{List, [], _∷_, _++_}

@@ -1,6 +1,5 @@
 -- One entry more in the part and in the table: the table's word at the literal is the slot of the literal, so that 0 says that the entry
 -- goes behind all others, and i + 1 that entry i has the literal and is joined. No other literal's slot changes.
--- Assumes nothing.
 use mathlib.Core.Path.{_≡_, refl, sym, ap, _∙_, subst}
 use mathlib.Core.Bool.{Bool, true, false}
 use mathlib.Core.List.{List, [], _∷_}

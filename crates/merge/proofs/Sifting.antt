@@ -1,6 +1,5 @@
 -- The second pass and the third. The first m entries are those of the first k that have a weight other than 0, and the words from entry k
 -- on are as they were; so entry k is dropped, or written behind the m. Words set to 0 from a place on leave those before it.
--- Assumes nothing.
 use mathlib.Core.Path.{_≡_, refl, sym, ap, _∙_}
 use mathlib.Core.Bool.{true, false, cond}
 use mathlib.Core.List.{List, [], _∷_, _++_}

@@ -1,5 +1,4 @@
 -- The words of signed numbers from size and sign, and what the turned entry is, by the kind and the literal's sign.
--- Assumes nothing.
 use mathlib.Core.Path.{_≡_, refl, sym, ap, _∙_}
 use mathlib.Core.Bool.{Bool, true, false, not}
 use Prim.Native.Nat.{ℕ, zero, suc, _+_, _-_, _*_, _/_, _%_, _≤_}

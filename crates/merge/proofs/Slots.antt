@@ -1,5 +1,4 @@
 -- The slot of a literal, 1 more than the place of its entry or 0: `put` joins at the slot, or puts the entry at the end where there is none.
--- Assumes nothing.
 use mathlib.Core.Path.{_≡_, refl, ap, _∙_}
 use mathlib.Core.Bool.{Bool, true, false, cond}
 use mathlib.Core.List.{List, [], _∷_, _++_}

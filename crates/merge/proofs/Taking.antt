@@ -1,6 +1,5 @@
 -- Entry i of the columns may be taken after the i before it: what was asked of all entries is so of these, and the product of some of the
 -- weights is at most that of all. Before any entry nothing is held.
--- Assumes nothing.
 use mathlib.Core.Path.{_≡_, refl, sym, ap, _∙_, subst}
 use mathlib.Core.Bool.{Bool, false}
 use mathlib.Core.List.{List, [], _∷_, _++_}

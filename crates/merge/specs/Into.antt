@@ -1,5 +1,4 @@
 -- What merging a written set into a part of the area asks and leaves: the merged entries first, and words 0 behind them.
--- Assumes nothing.
 use mathlib.Core.Path.{_≡_}
 use mathlib.Core.Bool.{false, not}
 use mathlib.Core.List.{List}

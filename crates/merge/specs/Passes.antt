@@ -1,6 +1,5 @@
 -- What the passes of the merge hold: the entries that the first words of a part hold, the table of their places by literal, the table
 -- of the literals mentioned, and the merge of the entries taken so far.
--- Assumes nothing.
 use mathlib.Core.Path.{_≡_}
 use mathlib.Core.Bool.{Bool, true, false, not, cond}
 use mathlib.Core.List.{List, [], _∷_, _++_}

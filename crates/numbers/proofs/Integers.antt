@@ -3,7 +3,6 @@
 -- `omega (ints, sum-parts a b, neg-parts c)` closes a goal, and reads hypotheses, of the forms `T (leZ x y)`, `T (not (leZ x y))`,
 -- `x ≤ℤ y` and `x ≡ y`; it wants `sum-parts a b` for each sum a +ℤ b, `neg-parts c` for each negℤ c, and
 -- `size-parts d` for each natAbs d, that stands in one of them.
--- Assumes nothing.
 use mathlib.Core.Path.{_≡_, refl, sym, _∙_, ap}
 use mathlib.Core.Bool.{Bool, true, false, cond, not}
 use Prim.Native.Nat.{ℕ, zero, suc, _+_, _*_, _-_, _≤_, _<_, zero-le}

@@ -1,6 +1,5 @@
 -- The laws of biased words: sum, product, negation and order of words are those of the numbers and values that they stand for. The word w
 -- is the number w − 2^62, so that each law is linear in the parts of that number; and a literal's word is taken apart by its parity.
--- Assumes nothing.
 use mathlib.Core.Path.{_≡_, refl, sym, _∙_, ap}
 use mathlib.Core.Bool.{Bool, true, false}
 use mathlib.Core.Logic.{_⊎_, inl, inr, ⊎-elim}

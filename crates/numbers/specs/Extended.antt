@@ -1,5 +1,4 @@
 -- Values of aggregates: an integer, or below every number, or above every number; and their order.
--- Assumes nothing.
 use mathlib.Core.Bool.{Bool, true, false, cond}
 use lib.IntN.{ℤ}
 use lib.Signed.{leZ}

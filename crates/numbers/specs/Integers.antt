@@ -1,5 +1,4 @@
 -- The two parts of an integer, by which `omega`, which reads naturals, closes linear facts over integers.
--- Assumes nothing.
 use Prim.Native.Nat.{ℕ, suc}
 use lib.IntN.{ℤ, pos, negsuc}
 

@@ -1,6 +1,5 @@
 -- Signed numbers as words of the work area. A number z is the word 2^62 + z; below every number is the word 0 and above every number
 -- 2^63, so that the order of words is the order of values. A literal is the word 2 × atom, and one more where it is negative.
--- Assumes nothing.
 use mathlib.Core.Bool.{cond}
 use Prim.Native.Nat.{ℕ, suc, _+_, _-_, _*_, _/_, _%_}
 use lib.IntN.{ℤ, pos, negsuc, negℤ, subℕ}

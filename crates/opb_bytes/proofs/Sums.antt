@@ -1,5 +1,4 @@
 -- Tests on sums, told without the sum; and what a variable without a fault leaves room for.
--- Assumes nothing.
 use mathlib.Core.Path.{_≡_, refl, sym}
 use mathlib.Core.Bool.{Bool, true, false, cond}
 use Prim.Native.Nat.{ℕ, _+_, _-_, _≤_, _<_}

@@ -1,5 +1,4 @@
 -- The classes of bytes.
--- Assumes nothing.
 use mathlib.Core.Bool.{Bool, true, false, cond, _&&_, _||_}
 use Prim.Native.Nat.{ℕ}
 use lib.Dec.{eqb, leb}

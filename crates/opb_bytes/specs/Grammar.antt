@@ -1,5 +1,4 @@
 -- The grammar of an OPB text as an automaton: which byte may stand where, which refusal stands at it, and where the text may end.
--- Assumes nothing.
 use mathlib.Core.Bool.{Bool, true, false, cond}
 use mathlib.Core.List.{List, [], _∷_}
 use Prim.Native.Nat.{ℕ, suc, _+_, _*_, _-_, min}

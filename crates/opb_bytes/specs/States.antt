@@ -1,5 +1,4 @@
 -- What holds of every state that a text leads to, so that no sum of a step wraps.
--- Assumes nothing.
 use Prim.Native.Nat.{ℕ, _≤_, _<_}
 use Rattle.opb_bytes.specs.declared.Phase.{Phase}
 use Rattle.opb_bytes.specs.declared.Phase.the-variants.{Opening, BeforeV, InV, Middle, BeforeC, InC, AfterReturn, LineStart, Between, Comment, WeightSign, InWeight, BeforeX, BeforeVariable, InVariable, AfterTerm, AfterGreater, AfterRelation, BeforeBound, BoundSign, InBound, AfterBound}

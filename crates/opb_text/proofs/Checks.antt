@@ -1,5 +1,4 @@
 -- Texts and what they read as: document 01's input, and each refusal with the text that just misses it. Each list has one claim.
--- Assumes nothing.
 use mathlib.Core.Path.{_≡_, refl}
 use mathlib.Core.Bool.{true, false}
 use mathlib.Core.List.{List, [], _∷_, _++_, map}

@@ -1,6 +1,5 @@
 -- Where a pass over the text stands: what is left to read, from the state with the constraints and terms read so far, gives the whole
 -- text's reading. Each turn of a loop keeps it, and at a fault or at the end it is the answer.
--- Assumes nothing.
 use mathlib.Core.Path.{_≡_, refl, sym, ap, subst, _∙_}
 use mathlib.Core.List.{List, [], _∷_, _++_}
 use Prim.Native.Nat.{ℕ, suc, _+_, _≤_, _<_}

@@ -1,5 +1,4 @@
 -- The first pass: the answer at a fault or at the end is the reading's, since the state has counted the sentences and entries of the rows.
--- Assumes nothing.
 use mathlib.Core.Path.{_≡_, refl, sym, ap, subst, _∙_}
 use mathlib.Core.Bool.{Bool, true, false, cond}
 use mathlib.Core.List.{List, [], _∷_, _++_}

@@ -1,6 +1,5 @@
 -- The second pass: the columns hold the constraints and terms read so far. There is room, since the counts only grow, up to those of the
 -- whole text, which the first pass compared with the room; no fault comes, since the text was taken; at the end all constraints are there.
--- Assumes nothing.
 use mathlib.Core.Path.{_≡_, refl, sym, ap, subst, _∙_}
 use mathlib.Core.Bool.{Bool, true, false, cond}
 use mathlib.Core.List.{List, [], _∷_, _++_}

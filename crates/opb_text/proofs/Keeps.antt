@@ -1,5 +1,4 @@
 -- What holds of every state that a text leads to, with the constraints and the terms read so far: each step keeps it.
--- Assumes nothing.
 use mathlib.Core.Path.{_≡_, refl, sym}
 use mathlib.Core.Bool.{Bool, true, false, cond}
 use mathlib.Core.List.{List, [], _∷_, _++_}

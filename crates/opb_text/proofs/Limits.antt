@@ -1,6 +1,5 @@
 -- The limits of what is read: a text that is taken has at most 256 sentences, 4,096 entries and 1,024 atoms, with at least one variable;
 -- and a refusal has a number. From any state on the way the counts only grow, up to those of the whole text.
--- Assumes nothing.
 use mathlib.Core.Path.{_≡_, refl, sym, subst}
 use mathlib.Core.Bool.{Bool, true, false, cond}
 use mathlib.Core.List.{List, [], _∷_, _++_}

@@ -1,5 +1,4 @@
 -- The reader's answer is the first pass's, for the room of the shortest columns.
--- Assumes nothing.
 use mathlib.Core.Path.{_≡_, refl}
 use mathlib.Core.List.{List}
 use Prim.Native.Nat.{ℕ, min}

@@ -1,5 +1,4 @@
 -- A number of at most 10^18 and its opposite as an i64: each fits, so that its bits, read back, are the number itself.
--- Assumes nothing.
 use mathlib.Core.Path.{_≡_, _∙_, ap}
 use Prim.Native.Nat.{ℕ, zero, suc, _≤_}
 use native.Mathlib.Omega.{arith}

@@ -1,5 +1,4 @@
 -- Stores into a column: a part once more behind itself, and a front that grows.
--- Assumes nothing.
 use mathlib.Core.Path.{_≡_, refl, sym, ap, _∙_, subst}
 use mathlib.Core.Bool.{Bool, true, false, cond}
 use mathlib.Core.List.{List, _++_}

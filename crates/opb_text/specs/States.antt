@@ -1,5 +1,4 @@
 -- What the reader's inner functions rest on: the answer from the last state, and a constraint's rows as they are stored.
--- Assumes nothing.
 use mathlib.Core.Path.{_≡_}
 use mathlib.Core.Bool.{Bool, cond}
 use mathlib.Core.List.{List, [], _∷_}

@@ -1,5 +1,4 @@
 -- What an OPB text holds, or the refusal that it gets; and the columns that load is handed for it.
--- Assumes nothing.
 use mathlib.Core.Path.{_≡_}
 use mathlib.Core.Bool.{Bool, true, false, cond}
 use mathlib.Core.List.{List, [], _∷_, _++_, map}

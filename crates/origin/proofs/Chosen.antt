@@ -1,5 +1,5 @@
 -- The chosen literals of the first positions, counted and written one after another: they stand at the front of the list, and the rest
--- of it is as it was. Assumes nothing.
+-- of it is as it was.
 use mathlib.Core.Path.{_≡_, refl, sym, _∙_, ap}
 use mathlib.Core.Bool.{Bool, true, false, cond}
 use mathlib.Core.Logic.{⊎-elim}

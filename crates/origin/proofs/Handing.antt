@@ -1,5 +1,5 @@
 -- A table with one mark, at a position of the trail: what marking makes of it chooses the origins of the literal there, and these are
--- handed over. Assumes nothing.
+-- handed over.
 use mathlib.Core.Path.{_≡_, refl, _∙_, ap}
 use mathlib.Core.Logic.{⊎-elim}
 use mathlib.Core.List.{List}

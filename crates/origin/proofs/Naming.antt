@@ -1,5 +1,5 @@
 -- The causes that a sentence names, marked place by place: what is marked is named, and what is named is marked or still to come. A literal
--- has one position, so that the mark of a cause is that of its position. Assumes nothing.
+-- has one position, so that the mark of a cause is that of its position.
 use mathlib.Core.Path.{_≡_, refl, sym, _∙_, ap, subst}
 use mathlib.Core.Logic.{_⊎_, inl, inr, ⊎-elim}
 use mathlib.Core.List.{List, _∷_}

@@ -1,5 +1,5 @@
 -- The book's origins are the given literals that are reached: a literal has one position on the trail of a whole area, so that the test
--- of the book at a literal is the test at its own row, and its causes stand at positions before it. Assumes nothing.
+-- of the book at a literal is the test at its own row, and its causes stand at positions before it.
 use mathlib.Core.Path.{_≡_, refl, sym, _∙_, ap, ap₂, subst}
 use mathlib.Core.Bool.{Bool, true, false, not, cond, _&&_}
 use mathlib.Core.Logic.{_⊎_, inl, inr, ⊎-elim}

@@ -1,5 +1,5 @@
 -- The table's answers to origin on a whole area: 10 where the literal is of no atom, 12 where it is not on the trail, and otherwise its
--- origins, or 18 with their number. Assumes nothing.
+-- origins, or 18 with their number.
 use mathlib.Core.Path.{_≡_, refl, sym, ap, ap₂, subst}
 use mathlib.Core.Bool.{Bool, true, false, not, _&&_}
 use mathlib.Core.List.{List}

@@ -1,5 +1,5 @@
 -- One position handled and then those below it: together they mark what is reached from the top position down. A cause stands before
--- its position, so that no later step reaches the position itself. Assumes nothing.
+-- its position, so that no later step reaches the position itself.
 use mathlib.Core.Path.{_≡_, refl, _∙_, subst}
 use mathlib.Core.Logic.{inl, inr, ⊎-elim}
 use mathlib.Core.List.{List}

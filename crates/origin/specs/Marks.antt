@@ -1,5 +1,4 @@
 -- What origin marks: positions of the trail, from a literal's own down to those of its origins.
--- Assumes nothing.
 use mathlib.Core.Path.{_≡_}
 use mathlib.Core.Logic.{_⊎_}
 use mathlib.Core.List.{List}

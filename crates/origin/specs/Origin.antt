@@ -1,5 +1,4 @@
 -- What origin lists: the given literals of the marked positions. And how a list is handed over.
--- Assumes nothing.
 use mathlib.Core.Path.{_≡_}
 use mathlib.Core.Bool.{Bool, not, cond, _&&_}
 use mathlib.Core.List.{List, [], _∷_, _++_}

@@ -1,5 +1,5 @@
 -- A conflict must leave the pending marks: where no sentence is marked, a whole area has nothing to say, so that clearing the marks of an
--- area in conflict breaks it. Assumes nothing.
+-- area in conflict breaks it.
 use mathlib.Core.Path.{_≡_, refl, sym, ap, _∙_}
 use mathlib.Core.List.{List, [], _∷_}
 use Prim.Native.Nat.{ℕ, zero, suc, _+_, _<_}

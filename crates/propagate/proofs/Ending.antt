@@ -1,5 +1,5 @@
 -- What propagate does on a whole area is the table's: where its loop stops, the rows are those of the table's run, as many more as the
--- length grew, and the answer is still or the conflict. Assumes nothing.
+-- length grew, and the answer is still or the conflict.
 use mathlib.Core.Path.{_≡_, refl, sym, ap, ap₂, _∙_, subst}
 use mathlib.Core.Bool.{false, not, _||_}
 use mathlib.Core.List.{List, _∷_}

@@ -1,5 +1,5 @@
 -- What is found forced can be put on: its atom is open and in the sentence's scope, so an atom of the area; and the mark's fields are the
--- level, the sentence's number and its place. Assumes nothing.
+-- level, the sentence's number and its place.
 use mathlib.Core.Path.{_≡_, refl, sym, ap, _∙_, subst}
 use mathlib.Core.Bool.{Bool, true, false, cond}
 use mathlib.Core.Logic.{⊎-elim}

@@ -1,5 +1,5 @@
 -- What the table's speech says of the rules: where nothing is said every rule is silent, and a derived literal is of an open atom, since
--- only such a literal can be due. Assumes nothing.
+-- only such a literal can be due.
 use mathlib.Core.Path.{_≡_, refl, subst}
 use mathlib.Core.Bool.{Bool, true, false, cond, _&&_}
 use mathlib.Core.List.{List, [], _∷_}

@@ -1,7 +1,7 @@
 -- What propagate does on any whole area whose theory is the merge of well-formed sentences, by full assignments: at still no sentence has
 -- anything to say; a conflict is that of the lowest-numbered sentence that is not silent; each row put on is the first literal that its
 -- reason forces over the rows before it, all lower-numbered sentences silent. The trail that is left is consistent, and so is every
--- trail on the way, which is a tail of it. Assumes nothing.
+-- trail on the way, which is a tail of it.
 use mathlib.Core.Path.{_≡_, refl, sym, _∙_, ap, subst}
 use mathlib.Core.List.{List, [], _∷_, _++_}
 use Prim.Native.Nat.{ℕ, zero, suc, _+_, _≤_}

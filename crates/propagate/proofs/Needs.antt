@@ -1,5 +1,5 @@
 -- The numbers of sentences and of needed words are those of the theory, so areas of the same atoms and theory have the same. The written
--- entries before all sentences' end are those of all rules. Assumes nothing.
+-- entries before all sentences' end are those of all rules.
 use mathlib.Core.Path.{_≡_, sym, ap, _∙_}
 use mathlib.Core.List.{List, [], _∷_}
 use Prim.Native.Nat.{ℕ, zero, suc, _+_}

@@ -1,5 +1,5 @@
 -- A whole area where no sentence has anything to say is whole with its pending marks cleared: a mark is no part of a rule, the bounds
--- stay, and every sentence is silent. Assumes nothing.
+-- stay, and every sentence is silent.
 use mathlib.Core.Path.{_≡_, sym, ap, ap₂, _∙_, subst}
 use mathlib.Core.List.{List}
 use Prim.Native.Nat.{ℕ, _+_, _*_, _/_, _%_, _<_, _≤_}

@@ -1,5 +1,5 @@
 -- The loop of propagate: at each turn the area is whole, and what is left of the table's run from the present rows comes to the table's
--- run from the first rows. As there are no more rows than atoms, at least one step is left. Assumes nothing.
+-- run from the first rows. As there are no more rows than atoms, at least one step is left.
 use mathlib.Core.Path.{_≡_, refl, sym, ap, _∙_, subst}
 use mathlib.Core.List.{List, _∷_}
 use Prim.Native.Nat.{ℕ, suc, _+_, _-_, _≤_}

@@ -1,5 +1,4 @@
 -- The loop that clears the pending marks: the first sentences are cleared, one more at each turn, and every other word stays.
--- Assumes nothing.
 use mathlib.Core.Path.{_≡_, refl, sym, ap, _∙_, subst}
 use mathlib.Core.Logic.{⊎-elim}
 use mathlib.Core.List.{List}

@@ -1,5 +1,4 @@
 -- The paper's number and values for each case of propagate's answer, and what its loop asks and leaves.
--- Assumes nothing.
 use mathlib.Core.Path.{_≡_}
 use mathlib.Core.List.{List}
 use Prim.Native.Nat.{ℕ, suc}

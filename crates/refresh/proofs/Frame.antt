@@ -1,5 +1,5 @@
 -- What is read off the words of one sentence is the same in two lists where its record says the same and the entries are the same: its
--- rule, and that it is whole. Assumes nothing.
+-- rule, and that it is whole.
 use mathlib.Core.Path.{_≡_, sym, ap, ap₂, _∙_, subst}
 use mathlib.Core.Bool.{not}
 use mathlib.Core.List.{List}

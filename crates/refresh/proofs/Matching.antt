@@ -1,5 +1,5 @@
 -- A refreshed sentence matches the trail as it now is. An untouched one has the bounds, and says, what it had and said before: all its
--- atoms stand as they stood. A renewed one has the extremes of the values, which show the trail, and is marked. Assumes nothing.
+-- atoms stand as they stood. A renewed one has the extremes of the values, which show the trail, and is marked.
 use mathlib.Core.Path.{_≡_, sym, ap, _∙_, subst}
 use mathlib.Core.Bool.{false, true≢false}
 use mathlib.Core.List.{List}

@@ -1,5 +1,5 @@
 -- The loop over the sentences: those passed are refreshed, and the words of the others are as they were, so that the next one can still be
--- evaluated, with the same rule and over the same values. Assumes nothing.
+-- evaluated, with the same rule and over the same values.
 use mathlib.Core.Path.{_≡_, refl, sym, ap, _∙_, subst}
 use mathlib.Core.Logic.{_⊎_, inl, inr, ⊎-elim}
 use mathlib.Core.List.{List}

@@ -1,5 +1,5 @@
 -- What refreshing one sentence leaves: its own words where no atom of it is touched, and otherwise its record with the new extremes and
--- the mark set. Assumes nothing.
+-- the mark set.
 use mathlib.Core.Path.{_≡_, refl, ap, _∙_}
 use mathlib.Core.Logic.{inl, inr}
 use mathlib.Core.List.{List}

@@ -1,5 +1,5 @@
 -- The stored theory is the same in two lists where each record says the same and the entries are the same: its rules, the places of its
--- sentences, and that they are whole. Assumes nothing.
+-- sentences, and that they are whole.
 use mathlib.Core.Path.{_≡_, refl, sym, ap₂, _∙_}
 use mathlib.Core.List.{List, _∷_}
 use Prim.Native.Nat.{ℕ, zero, suc, _+_, _*_, _%_, _<_, _≤_}

@@ -1,5 +1,5 @@
 -- The atoms of a stored sentence by number: the head's word, and half the literal's word of each merged entry. So a sentence is untouched
--- where the table has 0 for each. Assumes nothing.
+-- where the table has 0 for each.
 use mathlib.Core.Path.{_≡_, sym, ap, _∙_, subst}
 use mathlib.Core.List.{List}
 use Prim.Native.Nat.{ℕ, _+_, _*_, _/_, _%_, _<_}

@@ -1,5 +1,5 @@
 -- What is read off word 0 and the trail's words is the same in two lists with the same words there; and a row's reason stays right where
--- the theory is the same besides. Assumes nothing.
+-- the theory is the same besides.
 use mathlib.Core.Path.{_≡_, refl, sym, ap, ap₂, _∙_, subst}
 use mathlib.Core.List.{List, _∷_}
 use Prim.Native.Nat.{ℕ, zero, suc, _+_, _*_, _-_, _/_, _%_, _<_, _≤_}

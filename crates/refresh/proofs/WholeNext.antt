@@ -1,5 +1,5 @@
 -- From a whole area to the next: where only the trail's words changed, and rightly, and every atom whose value changed is touched,
--- refreshing leaves a whole area, of the same theory and the new rows. Assumes nothing.
+-- refreshing leaves a whole area, of the same theory and the new rows.
 use mathlib.Core.Path.{_≡_, sym, ap, ap₂, _∙_, subst}
 use mathlib.Core.Logic.{_⊎_, inl, inr}
 use mathlib.Core.List.{List}

@@ -1,6 +1,5 @@
 -- What renewing the stored bounds asks and leaves, after the values of some atoms changed: a sentence with such an atom gets the extremes
 -- over the values as they now are, and is marked as pending; the others keep their words.
--- Assumes nothing.
 use mathlib.Core.Path.{_≡_}
 use mathlib.Core.Bool.{true}
 use mathlib.Core.Logic.{_⊎_}

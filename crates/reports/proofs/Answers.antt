@@ -1,5 +1,5 @@
 -- A list call on a whole area answers by the table, and on any other 9, and leaves the list; a list that is long enough holds the rows,
--- and a shorter one is left. Assumes nothing.
+-- and a shorter one is left.
 use mathlib.Core.Path.{_≡_, refl, sym, _∙_, ap}
 use mathlib.Core.List.{List, _++_}
 use Prim.Native.Nat.{ℕ, _*_, _<_, _≤_}

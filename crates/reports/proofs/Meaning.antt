@@ -1,6 +1,5 @@
 -- What bounds answers on a whole area: the least and the greatest value of that sentence over the full assignments that agree with the
 -- trail. The area's rules are the merges of the sentences, which judge as full assignments do, and its trail is consistent.
--- Assumes nothing.
 use mathlib.Core.Path.{_≡_, sym, subst}
 use mathlib.Core.List.{List}
 use Prim.Native.Nat.{ℕ, _≤_}

@@ -1,5 +1,4 @@
 -- The table's answers to the two reports, for a work area: the tests of the code are those of the table.
--- Assumes nothing.
 use mathlib.Core.Path.{_≡_, refl, sym, _∙_, ap}
 use mathlib.Core.Bool.{Bool, true, false, not, _&&_}
 use mathlib.Core.List.{List}

@@ -1,5 +1,4 @@
 -- The rows written so far stand at the front of the list, and the rest of it is as it was: three stores put one row more behind them.
--- Assumes nothing.
 use mathlib.Core.Path.{_≡_, refl, sym, _∙_, ap}
 use mathlib.Core.List.{List, [], _∷_, _++_}
 use Prim.Native.Nat.{ℕ, suc, _+_, _*_, _/_, _%_, _<_, _≤_}

@@ -1,5 +1,5 @@
 -- A word below 2^63 and a literal's word as signed numbers: each number on the way fits the machine's, so that its bits, read back, are
--- the number itself. Assumes nothing.
+-- the number itself.
 use mathlib.Core.Path.{_≡_, sym, _∙_, ap, subst}
 use mathlib.Core.Logic.{⊎-elim}
 use Prim.Native.Nat.{ℕ, zero, suc, _/_, _%_, _<_, _≤_}

@@ -1,5 +1,4 @@
 -- A stored value's word gives its mark and number: 0 is below every number, 2^63 and more above, and any other word a number.
--- Assumes nothing.
 use mathlib.Core.Path.{_≡_, refl, _∙_, ap}
 use Prim.Native.Nat.{ℕ, _<_, _≤_}
 use native.Mathlib.Omega.{arith}

@@ -1,5 +1,4 @@
 -- What the parts of the reports leave: a value as the paper has it, and the answer and list of a whole area's trail.
--- Assumes nothing.
 use mathlib.Core.Path.{_≡_}
 use mathlib.Core.List.{List}
 use Prim.Native.Nat.{ℕ}

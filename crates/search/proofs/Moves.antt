@@ -1,5 +1,5 @@
 -- A move leaves the state after the outcome, and two moves are one: atoms and theory stay, so the need does. The rows are as many as the
--- counters say, and few. Assumes nothing.
+-- counters say, and few.
 use mathlib.Core.Path.{_≡_, refl, sym, ap, _∙_}
 use mathlib.Core.Bool.{false}
 use mathlib.Core.List.{List}

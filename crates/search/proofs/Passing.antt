@@ -1,5 +1,4 @@
 -- One literal of the list: of no atom it ends the search, on the trail it is passed, open it is tried. Each is one case of `try-next`.
--- Assumes nothing.
 use mathlib.Core.Path.{_≡_, refl, ap, ap₂, _∙_, subst}
 use mathlib.Core.Bool.{Bool, true, false, not, cond, _&&_}
 use mathlib.Core.List.{List, [], _∷_}

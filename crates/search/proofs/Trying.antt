@@ -1,5 +1,5 @@
 -- A literal of an open atom, tried: opening a level is refused, or the literal is given there. What the table replies is read off the
--- code, and rows and atoms of the opened state are those before, so that the literal is still open. Assumes nothing.
+-- code, and rows and atoms of the opened state are those before, so that the literal is still open.
 use mathlib.Core.Path.{_≡_, refl, sym, ap, ap₂, _∙_, subst}
 use mathlib.Core.Bool.{Bool, true, false, not, cond, _||_}
 use mathlib.Core.List.{List}

@@ -1,5 +1,5 @@
 -- The loop: what is left to do from the words reached comes to the whole search. A turn of propagate and a literal tried each take one
--- case of it off. The total is at most the number of rows, as propagate only puts rows on. Assumes nothing.
+-- case of it off. The total is at most the number of rows, as propagate only puts rows on.
 use mathlib.Core.Path.{_≡_, refl, sym, ap, _∙_, subst}
 use mathlib.Core.Bool.{false, not, cond, _||_}
 use mathlib.Core.List.{List}

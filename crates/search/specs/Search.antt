@@ -1,6 +1,5 @@
 -- The search loop, as the table's calls in order: propagate; from still open a level and give the next literal of the list whose atom is
 -- open, and so on until the list is done. A conflict or a refusal ends it; the count is the sum over all turns.
--- Assumes nothing.
 use mathlib.Core.Path.{_≡_}
 use mathlib.Core.Bool.{cond}
 use mathlib.Core.List.{List, [], _∷_}

@@ -1,6 +1,5 @@
 -- What the parts of the search loop ask and leave: the next literal of the list, a literal tried at a level of its own, propagate's
 -- answer at the end, and the loop on a whole area.
--- Assumes nothing.
 use mathlib.Core.Path.{_≡_}
 use mathlib.Core.Bool.{false}
 use mathlib.Core.List.{List}

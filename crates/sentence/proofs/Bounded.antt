@@ -1,5 +1,5 @@
 -- No fold over a whole sentence wraps, whatever the values: each contribution is the weight or the empty value, so that a sum moves by no
--- more than the sizes of all its weights together, and a product never passes the product of all its weights. Assumes nothing.
+-- more than the sizes of all its weights together, and a product never passes the product of all its weights.
 use mathlib.Core.Path.{_≡_, refl, sym, subst}
 use mathlib.Core.Bool.{Bool, true, false, cond}
 use mathlib.Core.Logic.{_⊎_, inl, inr, ⊎-elim}

@@ -1,5 +1,5 @@
 -- A sentence in words, and its comparison at an extreme: the extreme on words stands for the extreme of the rule, and that the comparison
--- has a truth there is that the word reaches, or does not reach, the limit. Assumes nothing.
+-- has a truth there is that the word reaches, or does not reach, the limit.
 use mathlib.Core.Path.{_≡_, refl, sym, _∙_, ap}
 use mathlib.Core.Bool.{Bool, true, false, not, Bool·beq}
 use mathlib.Core.Logic.{⊎-elim}

@@ -1,5 +1,5 @@
 -- The fold on words stands for the fold of values: an entry's contribution stands for how far the entry reaches by its atom's standing,
--- and each step stands for a combination. Assumes nothing.
+-- and each step stands for a combination.
 use mathlib.Core.Path.{_≡_, refl, sym, _∙_, ap}
 use mathlib.Core.Bool.{Bool, true, false, cond}
 use mathlib.Core.Logic.{_⊎_, inl, inr, ⊎-elim}

@@ -1,5 +1,5 @@
 -- One atom more of a rule's scan: an atom on the trail is passed over, and of an open one at most one literal can be due where the other
--- is not refuted. Assumes nothing.
+-- is not refuted.
 use mathlib.Core.Path.{_≡_, refl, sym, _∙_, ap}
 use mathlib.Core.Bool.{Bool, true, false, cond, _&&_}
 use mathlib.Core.Logic.{_⊎_, inl, inr}

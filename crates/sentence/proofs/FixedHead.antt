@@ -1,6 +1,6 @@
 -- What a sentence with a fixed head says first. It conflicts where the comparison does not have the head's truth at the extreme towards
 -- it. Otherwise an open entry's wanted literal leaves the extreme as it is, so that only its opposite can be refuted: by the entry's
--- contribution replaced, which cannot be where the other extreme or the second best keeps the truth. Assumes nothing.
+-- contribution replaced, which cannot be where the other extreme or the second best keeps the truth.
 use mathlib.Core.Path.{_≡_, refl, sym, _∙_, ap}
 use mathlib.Core.Bool.{Bool, true, false, not, cond, _&&_, true≢false}
 use mathlib.Core.Logic.{inl, inr}

@@ -1,6 +1,5 @@
 -- One entry more, as a loop over the area goes: the words from entry i on are its weight, its literal and the words from entry i + 1 on.
 -- So what a fold or a scan makes of the words from i on stays what it makes of all, and that is a loop's invariant.
--- Assumes nothing.
 use mathlib.Core.Path.{_≡_, refl, sym, ap, _∙_, subst}
 use mathlib.Core.Bool.{Bool, cond, _&&_}
 use mathlib.Core.List.{List, [], _∷_}

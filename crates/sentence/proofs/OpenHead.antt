@@ -1,5 +1,5 @@
 -- What a sentence with an open head says first: only a literal of the head can be due, since the rule refutes nothing without its head's
--- truth; and the two extremes decide which. Assumes nothing.
+-- truth; and the two extremes decide which.
 use mathlib.Core.Path.{_≡_, refl, sym, _∙_, ap}
 use mathlib.Core.Bool.{Bool, true, false, not, cond, Bool·beq, _&&_}
 use mathlib.Core.List.{List, [], _∷_}

@@ -1,5 +1,5 @@
 -- A literal of an open entry put on the trail replaces that entry's contribution, and no other. The wanted literal leaves it at its
--- furthest, and the opposite one makes it the nearest. Assumes nothing.
+-- furthest, and the opposite one makes it the nearest.
 use mathlib.Core.Path.{_≡_, refl, sym, _∙_, ap, subst}
 use mathlib.Core.Bool.{Bool, true, false, cond}
 use mathlib.Core.Logic.{_⊎_, ⊎-elim}

@@ -1,6 +1,5 @@
 -- Whatever is put on, a value stays between the extremes: of two folds, one down and one up, whose values agree where both are set, the
 -- lower one is the lesser, entry by entry. So where the comparison has its truth at the other extreme too, no entry can take it away.
--- Assumes nothing.
 use mathlib.Core.Path.{_≡_, sym, ap}
 use mathlib.Core.Bool.{Bool, true, false, not, cond}
 use mathlib.Core.Logic.{_⊎_, inl, inr}

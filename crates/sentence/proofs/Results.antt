@@ -1,5 +1,5 @@
 -- What the code answers of a sentence that is ready is what the sentence says first, over every trail that the values show; and the word
--- of a forced literal is at least 2. Assumes nothing.
+-- of a forced literal is at least 2.
 use mathlib.Core.Path.{_≡_, refl, sym, _∙_, ap, subst}
 use mathlib.Core.Bool.{Bool, true, false, not, cond, _&&_}
 use mathlib.Core.List.{List, [], _∷_}

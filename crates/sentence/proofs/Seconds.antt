@@ -1,5 +1,5 @@
 -- One contribution replaced by another in a maximum or a minimum: where it was the best, the second best is left, and otherwise the best;
--- and where it was the empty value, nothing is lost. One argument for both. Assumes nothing.
+-- and where it was the empty value, nothing is lost. One argument for both.
 use mathlib.Core.Path.{_≡_, refl, sym, _∙_, ap}
 use mathlib.Core.Bool.{Bool, true, false, cond}
 use mathlib.Core.Logic.{⊎-elim}

@@ -1,5 +1,4 @@
 -- Some trail shows the values of n atoms: the one that has, for each atom whose value is not 0, the literal that the value says.
--- Assumes nothing.
 use mathlib.Core.Path.{_≡_, refl, sym, _∙_, subst}
 use mathlib.Core.Bool.{Bool, true, false, cond}
 use mathlib.Core.List.{List, [], _∷_}

@@ -1,5 +1,5 @@
 -- A sentence that is ready, in its stored words: they are sound words of its rule, its entries stand inside the area, and the words of
--- its extremes are the folds. Assumes nothing.
+-- its extremes are the folds.
 use mathlib.Core.Path.{_≡_, sym, _∙_, ap, subst}
 use mathlib.Core.Bool.{Bool, true, false}
 use mathlib.Core.Logic.{⊎-elim}

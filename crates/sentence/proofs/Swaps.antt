@@ -1,5 +1,5 @@
 -- One contribution replaced by another, on words: the new sum is the old one with the one added and the other taken off, and the new
--- product the old one multiplied by the one and divided by the other. Assumes nothing.
+-- product the old one multiplied by the one and divided by the other.
 use mathlib.Core.Path.{_≡_, refl, sym, _∙_, ap}
 use mathlib.Core.List.{List, [], _∷_}
 use Prim.Native.Nat.{ℕ, _+_, _-_, _*_, _/_, _≤_, _<_}

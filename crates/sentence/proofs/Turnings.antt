@@ -1,4 +1,4 @@
--- Turning an open entry of sound words does not wrap: the value with the entry turned is itself a fold that does not. Assumes nothing.
+-- Turning an open entry of sound words does not wrap: the value with the entry turned is itself a fold that does not.
 use mathlib.Core.Path.{_≡_, refl, _∙_}
 use mathlib.Core.Bool.{Bool, true, false, true≢false}
 use mathlib.Core.List.{List, [], _∷_}

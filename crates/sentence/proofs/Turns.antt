@@ -1,5 +1,5 @@
 -- The test on an entry of weight w is right: with the entry's furthest contribution replaced by its nearest one, the comparison loses its
--- truth exactly where the test says so. Assumes nothing.
+-- truth exactly where the test says so.
 use mathlib.Core.Path.{_≡_, refl, sym, _∙_, ap}
 use mathlib.Core.Bool.{Bool, true, false, not, cond, true≢false}
 use mathlib.Core.List.{List}

@@ -1,4 +1,4 @@
--- What is known of a sentence before the scan says the same as the sentence: a case of the one for each case of the other. Assumes nothing.
+-- What is known of a sentence before the scan says the same as the sentence: a case of the one for each case of the other.
 use mathlib.Core.Path.{_≡_, refl, sym, subst}
 use mathlib.Core.Bool.{Bool, true, false, not, cond, _&&_}
 use mathlib.Core.List.{List}

@@ -1,4 +1,4 @@
--- When the extremes alone show that a sentence has nothing to say: a case of what is known before the scan. Assumes nothing.
+-- When the extremes alone show that a sentence has nothing to say: a case of what is known before the scan.
 use mathlib.Core.Path.{_≡_, refl, _∙_, ap}
 use mathlib.Core.Bool.{Bool, true, false, not, cond, _&&_}
 use mathlib.Core.List.{List}

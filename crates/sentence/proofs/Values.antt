@@ -1,5 +1,5 @@
 -- Words stand for values: the order of words is the values' order, and each kind's combination of words is the combination of the values,
--- where it does not wrap. Assumes nothing.
+-- where it does not wrap.
 use mathlib.Core.Path.{_≡_, sym, _∙_, ap, subst}
 use mathlib.Core.Bool.{Bool, true, false}
 use mathlib.Core.Logic.{_⊎_, inl, inr, ⊎-elim}

@@ -1,5 +1,5 @@
 -- A whole rule's words are sound: its weights and its constant are small enough for any fold. Of a sum, at most 4,096 weights of at most
--- 4,096 × 10^9 each; of a product, at most 10^18 all together. Assumes nothing.
+-- 4,096 × 10^9 each; of a product, at most 10^18 all together.
 use mathlib.Core.Path.{_≡_, refl, _∙_, ap, subst}
 use mathlib.Core.Bool.{Bool}
 use mathlib.Core.Logic.{⊎-elim}

@@ -1,5 +1,4 @@
 -- What is known of a stored sentence before its entries are scanned, and what the scan then asks.
--- Assumes nothing.
 use mathlib.Core.Path.{_≡_}
 use mathlib.Core.Bool.{Bool, cond, _&&_}
 use mathlib.Core.List.{List}

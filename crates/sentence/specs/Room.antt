@@ -1,5 +1,4 @@
 -- What the loops over a sentence's entries ask: the entries and the values stand inside the area, and nothing wraps.
--- Assumes nothing.
 use mathlib.Core.Path.{_≡_}
 use mathlib.Core.Bool.{Bool, false}
 use mathlib.Core.List.{List, [], _∷_}

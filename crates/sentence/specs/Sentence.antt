@@ -1,5 +1,4 @@
 -- What evaluating a stored sentence asks of the words, and what its answers stand for.
--- Assumes nothing.
 use mathlib.Core.Path.{_≡_}
 use mathlib.Core.Bool.{cond}
 use mathlib.Core.List.{List}

@@ -1,6 +1,5 @@
 -- What the extremes of a stored sentence and what it says first come to on words, as the code computes them. A value's word is larger
 -- where the value is. The proofs tie these to the computed definitions of the meaning.
--- Assumes nothing.
 use mathlib.Core.Path.{_≡_}
 use mathlib.Core.Bool.{Bool, true, false, not, cond, _&&_}
 use mathlib.Core.List.{List, [], _∷_}

@@ -1,5 +1,4 @@
 -- A signed number's bits, read back, are the number; so -1 - x of a negative x, and x itself of another, fit u64 with no case for the least.
--- Assumes nothing.
 use mathlib.Core.Path.{_≡_, refl, sym, ap, subst, _∙_}
 use Prim.Native.Nat.{ℕ, suc, _+_, _<_}
 use native.Mathlib.Omega.{arith}

@@ -1,5 +1,4 @@
 -- The sign of an integer; its size is the library's `natAbs`.
--- Assumes nothing.
 use mathlib.Core.Bool.{Bool, true, false}
 use lib.IntN.{ℤ, pos, negsuc}
 

@@ -1,5 +1,5 @@
 -- Rows above a level taken off one by one from the last: what holds at each turn, at its start, from turn to turn and at its end. Levels
--- rise along the trail, so the first row from the end that is not above the level ends it. Assumes nothing.
+-- rise along the trail, so the first row from the end that is not above the level ends it.
 use mathlib.Core.Path.{_≡_, refl, sym, _∙_, ap}
 use mathlib.Core.Bool.{cond}
 use mathlib.Core.List.{List}

@@ -1,5 +1,5 @@
 -- The fields of word 0: with one row more, and made of four numbers. Dividing by 2^32 and by 2^48 is dividing by 2^16 again and again, so
--- that each step is linear. Assumes nothing.
+-- that each step is linear.
 use mathlib.Core.Path.{_≡_, sym, _∙_, ap}
 use Prim.Native.Nat.{ℕ, _+_, _*_, _/_, _%_, _<_}
 use native.Mathlib.Omega.{arith}

@@ -1,5 +1,5 @@
 -- What a new length and level in word 0 leave: the other fields and all other words, and with them the trail's words and rows. So a level
--- more, and rows cut with the level lowered, leave right words. Assumes nothing.
+-- more, and rows cut with the level lowered, leave right words.
 use mathlib.Core.Path.{_≡_, sym, _∙_, ap, subst}
 use mathlib.Core.List.{List}
 use Prim.Native.Nat.{ℕ, _+_, _-_, _*_, _/_, _%_, _<_, _≤_}

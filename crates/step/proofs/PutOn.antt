@@ -1,5 +1,5 @@
 -- A literal of an open atom put on a right trail leaves it right, one row longer: only word 0, the atom's value word and the two words of
--- the new place change. An open atom leaves room, since the rows' atoms with it are different and at most n. Assumes nothing.
+-- the new place change. An open atom leaves room, since the rows' atoms with it are different and at most n.
 use mathlib.Core.Path.{_≡_, sym, _∙_, ap, ap₂, subst}
 use mathlib.Core.Bool.{cond}
 use mathlib.Core.List.{List, _∷_}

@@ -1,5 +1,4 @@
 -- Rows are made of their words alone; an atom's value word is 0 just where no row has the atom; levels that rise to k are all kept.
--- Assumes nothing.
 use mathlib.Core.Path.{_≡_, refl, sym, _∙_, ap, ap₂}
 use mathlib.Core.Bool.{cond}
 use mathlib.Core.List.{List, [], _∷_}

@@ -1,5 +1,5 @@
 -- The last row taken off a right trail leaves it right, one row shorter: its literal and mark and its atom's value word become 0, and its
--- atom stands in no other row. Assumes nothing.
+-- atom stands in no other row.
 use mathlib.Core.Path.{_≡_, sym, _∙_, ap, subst}
 use mathlib.Core.List.{List, _∷_}
 use Prim.Native.Nat.{ℕ, _+_, _-_, _*_, _/_, _<_, _≤_}

@@ -1,5 +1,4 @@
 -- Word 0 made of its fields: atoms, sentences, the trail's length, level.
--- Assumes nothing.
 use Prim.Native.Nat.{ℕ, _+_, _*_}
 
 abbrev pub header-word : ℕ → ℕ → ℕ → ℕ → ℕ

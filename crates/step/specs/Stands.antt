@@ -1,5 +1,4 @@
 -- Right words of a trail, for limits and a level that a step need not know.
--- Assumes nothing.
 use mathlib.Core.List.{List}
 use Prim.Native.Nat.{ℕ}
 use Rattle.types.specs.declared.Limits.{Limits}

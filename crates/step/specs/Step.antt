@@ -1,6 +1,5 @@
 -- The steps on the trail's words: a literal put on, the rows above a level taken off, the level set. Each is an equation or says of every
 -- word what becomes of it; the words of the sentences stay.
--- Assumes nothing.
 use mathlib.Core.Path.{_≡_}
 use mathlib.Core.List.{List}
 use Prim.Native.Nat.{ℕ, _+_, _-_, _*_, _/_, _%_, _<_, _≤_}

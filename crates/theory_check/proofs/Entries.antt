@@ -1,6 +1,5 @@
 -- The check of the entries, entry by entry: those passed are whole, their atoms are stamped, and their product is the running one. The
 -- product of weights from 1 on does not fall, so that one that has passed 10^18 stays past it.
--- Assumes nothing.
 use mathlib.Core.Path.{_≡_, sym, ap, _∙_, subst}
 use mathlib.Core.List.{List}
 use Prim.Native.Nat.{ℕ, _+_, _*_, _/_, _%_, _<_, _≤_}

@@ -1,6 +1,5 @@
 -- The entries of a sentence by number: the list read off its words is the list of the entries 0 to k-1, so that what holds of the list
 -- holds of each number and back.
--- Assumes nothing.
 use mathlib.Core.Path.{_≡_, refl, sym, ap, ap₂, _∙_}
 use mathlib.Core.List.{List, [], _∷_}
 use Prim.Native.Nat.{ℕ, zero, suc, _+_, _*_, _-_, _<_, _≤_}

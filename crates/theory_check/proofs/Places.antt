@@ -1,5 +1,4 @@
 -- The places of the sentences: how many entries stand before each, and that a sentence's own room is inside the area's.
--- Assumes nothing.
 use mathlib.Core.Path.{_≡_, refl, ap}
 use mathlib.Core.List.{List}
 use Prim.Native.Nat.{ℕ, zero, suc, _+_, _*_, _-_, _<_, _≤_}

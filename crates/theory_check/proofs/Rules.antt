@@ -1,5 +1,4 @@
 -- The stored theory by number: rule k of the list is the one whose record stands at place k.
--- Assumes nothing.
 use mathlib.Core.Path.{_≡_, refl, ap, _∙_}
 use mathlib.Core.List.{List}
 use Prim.Native.Nat.{ℕ, zero, suc, _+_, _<_}

@@ -1,6 +1,5 @@
 -- Wholeness determines the words of a sentence: each number, kind, side and literal has one word, and unused words are 0. So two lists
 -- that hold the same rule at the same place, with the same bounds and mark, have the same words there.
--- Assumes nothing.
 use mathlib.Core.Path.{_≡_, refl, sym, ap, _∙_, subst}
 use mathlib.Core.Bool.{not}
 use mathlib.Core.List.{List}

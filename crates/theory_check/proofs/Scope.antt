@@ -1,6 +1,5 @@
 -- A stored sentence's atoms by place: the head, and half the literal's word of each merged entry. So a row's reason is right where the
 -- word at its place says so.
--- Assumes nothing.
 use mathlib.Core.Path.{_≡_, sym, ap, _∙_, subst}
 use mathlib.Core.Bool.{Bool}
 use mathlib.Core.List.{List}

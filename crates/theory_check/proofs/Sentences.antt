@@ -1,6 +1,5 @@
 -- A sentence's wholeness is that of its own words, of its entries by number, and of its unused words: the entries' list is that of the
 -- numbers, and the product of the weights as integers is that of the words above 2^62.
--- Assumes nothing.
 use mathlib.Core.Path.{_≡_, refl, sym, ap, _∙_, subst}
 use mathlib.Core.Bool.{not}
 use mathlib.Core.List.{List}

@@ -1,6 +1,5 @@
 -- Stamps: those up to `old` are of other sentences, and each entry of this one is stamped old + 1. So an atom met before in this
 -- sentence has a stamp above `old`, and an atom whose stamp is not above `old` is apart from those before it.
--- Assumes nothing.
 use mathlib.Core.Path.{_≡_, refl, sym, ap, _∙_, subst}
 use mathlib.Core.List.{List}
 use mathlib.Core.Bool.{Bool, true, false}

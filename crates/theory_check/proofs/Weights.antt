@@ -1,5 +1,4 @@
 -- Weights, constants and literals by their words: a number is near 0 where its word is near 2^62, and a literal's atom is half its word.
--- Assumes nothing.
 use mathlib.Core.Path.{_≡_, refl, sym, ap, _∙_, subst}
 use mathlib.Core.Bool.{Bool}
 use mathlib.Core.Logic.{_⊎_, inl, inr, ⊎-elim}

@@ -1,6 +1,5 @@
 -- What the check of the stored theory decides: the clauses of `Whole` that speak of places, of one sentence's words, and of reasons; and
 -- what the check of a sentence asks of its table of stamps.
--- Assumes nothing.
 use mathlib.Core.Path.{_≡_}
 use mathlib.Core.Bool.{Bool, not}
 use mathlib.Core.List.{List}

@@ -1,6 +1,5 @@
 -- The clauses of a sentence's wholeness as its check takes them: its own words, its entries by number, and what the check of the entries
 -- asks and leaves.
--- Assumes nothing.
 use mathlib.Core.Path.{_≡_}
 use mathlib.Core.Bool.{Bool}
 use mathlib.Core.List.{List}

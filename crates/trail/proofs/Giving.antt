@@ -1,5 +1,5 @@
 -- What give answers and leaves on a whole area, by its tests: no atom has the literal's number (10), the atom's value word is not 0 (11),
--- and otherwise the literal is put on at the current level with no reason. Assumes nothing.
+-- and otherwise the literal is put on at the current level with no reason.
 use mathlib.Core.Path.{_≡_, refl, sym, _∙_, ap, ap₂, subst}
 use mathlib.Core.Bool.{Bool, true, false, not, cond, _&&_, _||_}
 use mathlib.Core.List.{List}

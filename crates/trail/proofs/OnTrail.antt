@@ -1,5 +1,5 @@
 -- The table's test whether an atom is on the trail is the test whether its value word is not 0: the rows give an atom that one of them has
--- a value word above 0, and 0 to another. Assumes nothing.
+-- a value word above 0, and 0 to another.
 use mathlib.Core.Path.{_≡_, refl, sym, _∙_, ap}
 use mathlib.Core.Bool.{Bool, true, false, not, cond}
 use mathlib.Core.List.{List, [], _∷_}

@@ -1,5 +1,4 @@
 -- What the functions on a whole area ask, for limits and a level that they need not know.
--- Assumes nothing.
 use mathlib.Core.List.{List}
 use Prim.Native.Nat.{ℕ}
 use Rattle.types.specs.declared.Limits.{Limits}

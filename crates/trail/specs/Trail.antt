@@ -1,5 +1,4 @@
 -- What putting a literal on a whole area asks and leaves: the area is whole with one row more, its bounds those of the longer trail.
--- Assumes nothing.
 use mathlib.Core.Path.{_≡_}
 use mathlib.Core.List.{List, _∷_}
 use Prim.Native.Nat.{ℕ, suc, _+_, _/_, _%_, _≤_}

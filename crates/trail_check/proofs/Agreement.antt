@@ -1,5 +1,5 @@
 -- The clauses tested index by index hold exactly where the trail's words are those of its rows: a value word that is not 0 and a place
--- of the trail that name each other leave no room for a second place of the atom. Assumes nothing.
+-- of the trail that name each other leave no room for a second place of the atom.
 use mathlib.Core.Path.{_≡_, refl, sym, _∙_, ap}
 use mathlib.Core.Logic.{⊎-elim}
 use mathlib.Core.List.{List}

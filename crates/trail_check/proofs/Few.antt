@@ -1,4 +1,4 @@
--- No more rows than atoms, where each atom stands once: their atoms are different and from 1 to n. Assumes nothing.
+-- No more rows than atoms, where each atom stands once: their atoms are different and from 1 to n.
 use mathlib.Core.Path.{_≡_}
 use mathlib.Core.List.{List, [], _∷_}
 use Prim.Native.Nat.{ℕ, _≤_}

@@ -1,4 +1,4 @@
--- Levels that do not fall, taken apart at the last row, and none at no row. Assumes nothing.
+-- Levels that do not fall, taken apart at the last row, and none at no row.
 use mathlib.Core.Path.{sym, subst}
 use mathlib.Core.List.{List}
 use Prim.Native.Nat.{ℕ, zero, suc, _-_, _%_, _<_, _≤_}

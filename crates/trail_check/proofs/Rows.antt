@@ -1,6 +1,5 @@
 -- The rows of a work area: what holds of each place holds of each row and back, and an atom that stands once is
 -- at one place. Rows stand newest first, so that the rows before a row are those behind it.
--- Assumes nothing.
 use mathlib.Core.Path.{_≡_, refl, sym, _∙_, ap, subst}
 use mathlib.Core.Logic.{⊎-elim}
 use mathlib.Core.List.{List, _∷_}

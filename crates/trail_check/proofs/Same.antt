@@ -1,5 +1,4 @@
 -- The words of a trail are determined by its rows and places: each is 0, a value word of the rows, or made of one row's fields.
--- Assumes nothing.
 use mathlib.Core.Path.{_≡_, sym, _∙_, ap}
 use mathlib.Core.Logic.{⊎-elim}
 use mathlib.Core.List.{List}

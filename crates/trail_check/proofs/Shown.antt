@@ -1,5 +1,5 @@
 -- What the checked words of a trail show: the standing of every atom, literals of atoms, and a consistent trail; and they are the only
--- such words of their rows and places. Assumes nothing.
+-- such words of their rows and places.
 use mathlib.Core.Path.{_≡_, refl, sym, _∙_, ap}
 use mathlib.Core.Bool.{Bool, true, false, cond}
 use mathlib.Core.Logic.{inl, inr}

@@ -1,4 +1,4 @@
--- The value word that rows give an atom: that of the place that has the atom, or 0 where none has. Assumes nothing.
+-- The value word that rows give an atom: that of the place that has the atom, or 0 where none has.
 use mathlib.Core.Path.{_≡_, refl, sym, _∙_, ap}
 use mathlib.Core.Bool.{cond}
 use mathlib.Core.Logic.{⊎-elim}

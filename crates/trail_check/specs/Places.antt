@@ -1,6 +1,5 @@
 -- The clauses that the check of the trail tests index by index. Together with the clauses of `TrailOk` that it tests as they stand they
 -- hold exactly where `TrailOk` does: a value word and the trail literal that it points at name each other.
--- Assumes nothing.
 use mathlib.Core.Path.{_≡_}
 use mathlib.Core.List.{List}
 use Prim.Native.Nat.{ℕ, _+_, _-_, _*_, _/_, _%_, _<_, _≤_}

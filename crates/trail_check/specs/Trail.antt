@@ -1,6 +1,5 @@
 -- What the check of word 0 and of the trail's words decides: the clauses of `Whole` that speak of them, for n atoms and a trail of len
 -- rows.
--- Assumes nothing.
 use mathlib.Core.Path.{_≡_}
 use mathlib.Core.List.{List}
 use Prim.Native.Nat.{ℕ, _+_, _*_, _<_, _≤_}

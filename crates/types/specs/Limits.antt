@@ -1,5 +1,4 @@
 -- The limits of document 01. Every definition that needs limits takes them as a parameter; this is the one place of their numbers.
--- Assumes nothing.
 use Prim.Native.Nat.{_≤_}
 use Rattle.types.specs.declared.Limits.{Limits}
 

@@ -1,6 +1,5 @@
 -- A sentence matches the values where its stored bounds are the words of its extremes and, unless it is marked, it is silent. The tests
 -- compare words with words that are right over every trail that the values show, so each answer holds over every such trail.
--- Assumes nothing.
 use mathlib.Core.Path.{_≡_, sym, ap, _∙_}
 use mathlib.Core.Bool.{true, false}
 use mathlib.Core.List.{List}

@@ -1,6 +1,5 @@
 -- The check of the sentences, sentence by sentence: those passed are right over every trail that the values show, and no stamp is above
 -- their number. A sentence whose places and words are right can be evaluated.
--- Assumes nothing.
 use mathlib.Core.Path.{_≡_, refl}
 use mathlib.Core.Bool.{Bool, true, false, not}
 use mathlib.Core.List.{List}

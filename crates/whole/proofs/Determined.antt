@@ -1,6 +1,5 @@
 -- Wholeness leaves nothing but the pending marks open: two whole areas of one length with the same sentences, rows, level and marks, and
 -- the same words past their needs, are the same words. Sentences and needs give the numbers of word 0; the rest is determined by them.
--- Assumes nothing.
 use mathlib.Core.Path.{_≡_, sym, _∙_, ap, subst}
 use mathlib.Core.Logic.{⊎-elim}
 use mathlib.Core.List.{List}

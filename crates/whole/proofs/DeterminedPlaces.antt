@@ -1,6 +1,5 @@
 -- The stored place of a row is determined: a whole sentence has each atom at one place of its scope, since the entries are of different
 -- atoms and none is of the head's; and the place of a given row is 0.
--- Assumes nothing.
 use mathlib.Core.Path.{_≡_, refl, sym, _∙_, ap}
 use mathlib.Core.Logic.{inl, inr}
 use mathlib.Core.List.{List, [], _∷_}

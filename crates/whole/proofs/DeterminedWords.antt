@@ -1,6 +1,5 @@
 -- The words of an area between word 0 and its need are determined by its rows, its sentences and their marks: those of the trail, and
 -- those of each sentence; and every word behind the trail is in some sentence's record or room.
--- Assumes nothing.
 use mathlib.Core.Path.{_≡_, sym, _∙_, ap}
 use mathlib.Core.Logic.{⊎-elim}
 use mathlib.Core.List.{List}

@@ -1,6 +1,5 @@
 -- What wholeness gives the calls: reasons are sentences that have the row's atom, the stored bounds are the extremes, an unmarked sentence
 -- has nothing to say, the trail is consistent, and words behind the area do not count. Each reads off clauses of wholeness.
--- Assumes nothing.
 use mathlib.Core.Path.{_≡_, refl, _∙_, ap}
 use mathlib.Core.Bool.{false}
 use mathlib.Core.List.{List, [], _∷_, _++_}

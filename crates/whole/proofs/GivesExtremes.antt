@@ -1,5 +1,5 @@
 -- The word of an extreme of a sentence that is ready gives the extreme back, over any trail: the extreme is what a fold of words stands
--- for, and no fold over whole words passes the word of `above`. Assumes nothing.
+-- for, and no fold over whole words passes the word of `above`.
 use mathlib.Core.Path.{_≡_, refl, sym, _∙_, ap}
 use mathlib.Core.Bool.{Bool, true, false}
 use mathlib.Core.List.{List}

@@ -1,5 +1,5 @@
 -- A rule that says nothing is not in conflict, and no literal is due: the scan finds none in the scope, and outside the scope a literal
--- put on leaves the test for a conflict as it was. Assumes nothing.
+-- put on leaves the test for a conflict as it was.
 use mathlib.Core.Path.{_≡_, refl, sym, _∙_, ap, subst}
 use mathlib.Core.Bool.{Bool, true, false, cond, _&&_}
 use mathlib.Core.Logic.{_⊎_, inl, inr, ⊎-elim}

@@ -1,5 +1,5 @@
 -- Wholeness is the conjunction of what the parts of the check decide: word 0, the trail, the places, the sentences, the reasons.
--- Both directions only regroup clauses; the trail's length is the one that word 0 stores. Assumes nothing.
+-- Both directions only regroup clauses; the trail's length is the one that word 0 stores.
 use mathlib.Core.Path.{_≡_, sym, subst}
 use mathlib.Core.List.{List}
 use Prim.Native.Nat.{ℕ, _<_, _≤_}

@@ -1,5 +1,4 @@
 -- What the check of the sentences asks and decides. It looks at the stored values, so it decides over every trail that they show.
--- Assumes nothing.
 use mathlib.Core.Bool.{Bool}
 use mathlib.Core.List.{List}
 use Prim.Native.Nat.{ℕ, _<_, _≤_}

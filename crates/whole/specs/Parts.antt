@@ -1,6 +1,5 @@
 -- What the check of one sentence decides in full, over a trail: its words are whole, its stored bounds match the trail, and unless it is
 -- marked as pending it has nothing to say.
--- Assumes nothing.
 use mathlib.Core.Path.{_≡_}
 use mathlib.Core.Bool.{false}
 use mathlib.Core.List.{List}

@@ -1,4 +1,4 @@
--- The head's word at place 0, and half the literal's word of a merged entry at its place (`Places`). Assumes nothing.
+-- The head's word at place 0, and half the literal's word of a merged entry at its place (`Places`).
 use borrow.Author.Needs.{needs}
 use Rattle.causes.proofs.Places.{head-at, entry-within}
 use Rattle.causes.proofs.atom_at.Statement.{statement}

@@ -1,4 +1,4 @@
--- The atom's value word says where its literal stands (`Positions`). Assumes nothing.
+-- The atom's value word says where its literal stands (`Positions`).
 use mathlib.Core.Path.{subst}
 use Prim.Native.Nat.{_-_, _/_}
 use borrow.Author.Needs.{needs}

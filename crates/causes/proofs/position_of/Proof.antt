@@ -1,4 +1,4 @@
--- The atom's value word says where its literal stands, and of which sign (`Positions`). Assumes nothing.
+-- The atom's value word says where its literal stands, and of which sign (`Positions`).
 use mathlib.Core.Path.{_≡_, sym, ap, _∙_, subst}
 use Prim.Native.Nat.{ℕ, _-_, _/_, _%_}
 use native.Mathlib.Omega.{arith}

@@ -1,4 +1,4 @@
--- The sign is 1 of a negative literal only. Assumes nothing.
+-- The sign is 1 of a negative literal only.
 use mathlib.Core.Path.{_≡_, refl, sym, ap, _∙_}
 use mathlib.Core.Bool.{true, false}
 use lib.IntN.{ℤ, pos, negsuc}

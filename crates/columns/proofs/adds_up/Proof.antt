@@ -1,5 +1,4 @@
 -- The counts add up to the total: the loop's invariant is that what is left and the sum so far do. A sum past the total only grows.
--- Assumes nothing.
 use mathlib.Core.Path.{_≡_, sym, ap}
 use Prim.Native.Nat.{ℕ, _≤_, _-_, _+_}
 use native.Mathlib.Omega.{arith}

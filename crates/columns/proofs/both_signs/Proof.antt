@@ -1,5 +1,5 @@
 -- Some literal is the negation of an earlier one: the loop's invariant is that none so far is, and that the table holds the mark of each
--- atom met. Assumes nothing.
+-- atom met.
 use mathlib.Core.Path.{_≡_, refl, sym, ap, _∙_}
 use mathlib.Core.Bool.{false}
 use mathlib.Core.List.{List}

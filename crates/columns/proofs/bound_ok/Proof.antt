@@ -1,5 +1,4 @@
 -- The two tests are those of `bound-fits`, of a number that comes back from its bits.
--- Assumes nothing.
 use mathlib.Core.Path.{_≡_}
 use mathlib.Core.Bool.{true, false}
 use lib.IntN.{negsuc}

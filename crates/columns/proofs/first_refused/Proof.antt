@@ -1,5 +1,5 @@
 -- The first sentence whose code is not 0: the loop's invariant is that the answer of all sentences is that of those from s on, whose
--- entries start where the counts before s end. Assumes nothing.
+-- entries start where the counts before s end.
 use mathlib.Core.Path.{_≡_, refl, sym, ap, _∙_}
 use Prim.Native.Nat.{ℕ, _≤_, _-_, _+_}
 use native.Mathlib.Omega.{arith}

@@ -1,5 +1,4 @@
 -- Each kind tells of its own range, by document 01's number of the kind.
--- Assumes nothing.
 use mathlib.Core.Path.{_≡_, refl, sym, ap, _∙_}
 use mathlib.Core.Bool.{Bool}
 use Prim.Native.Nat.{ℕ, zero, suc}

@@ -1,5 +1,4 @@
 -- Sums and counts may have both signs of an atom; of the others the table tells.
--- Assumes nothing.
 use mathlib.Core.Path.{_≡_, refl}
 use mathlib.Core.Bool.{false}
 use Prim.Native.Nat.{ℕ, zero, suc}

@@ -1,5 +1,4 @@
 -- The tests in order: each return is the first that holds.
--- Assumes nothing.
 use borrow.Author.Tests.{lt-ltb, le-ltb, eq-eqb, ne-eqb}
 use Rattle.columns.proofs.past_limits.Statement.{statement}
 use Rattle.columns.proofs.past_limits.Tie as tie

@@ -1,5 +1,4 @@
 -- The columns' shape in three parts, then the words needed, then the sentences: each return is load's answer by what was found.
--- Assumes nothing.
 use mathlib.Core.Path.{_≡_, sym, _∙_}
 use mathlib.Core.Bool.{false}
 use Prim.Native.Nat.{ℕ, _≤_}

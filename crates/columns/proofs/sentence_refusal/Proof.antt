@@ -1,5 +1,5 @@
 -- The six tests in order: each return is the code of the first that holds. What a test needs, that all literals are of atoms or that all
--- weights fit, is what an earlier one left. Assumes nothing.
+-- weights fit, is what an earlier one left.
 use mathlib.Core.Path.{_≡_, sym, _∙_, subst}
 use mathlib.Core.Bool.{false, not, _||_}
 use mathlib.Core.List.{List}

@@ -1,5 +1,4 @@
 -- The head is looked at first, then the literals.
--- Assumes nothing.
 use borrow.Author.Needs.{needs}
 use borrow.Author.Tests.{lt-ltb, le-ltb, eq-eqb, ne-eqb}
 use Rattle.columns.proofs.strange.Statement.{statement}

@@ -1,5 +1,5 @@
 -- The product of the weights passes its limit: the loop's invariant is that the product so far does not. A product that would pass it
--- stays past it, since no weight is below 1. Assumes nothing.
+-- stays past it, since no weight is below 1.
 use mathlib.Core.Path.{_≡_, sym, ap, ap₂, _∙_}
 use mathlib.Core.Bool.{false, not}
 use mathlib.Core.List.{List}

@@ -1,5 +1,4 @@
 -- The tests in order: each return is the first that holds.
--- Assumes nothing.
 use borrow.Author.Tests.{eq-eqb, ne-eqb}
 use Rattle.columns.proofs.unequal.Statement.{statement}
 use Rattle.columns.proofs.unequal.Tie as tie

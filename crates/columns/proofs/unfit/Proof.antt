@@ -1,5 +1,4 @@
 -- Some weight does not fit its kind's range: the loop's invariant is that all so far do.
--- Assumes nothing.
 use mathlib.Core.Path.{_≡_, sym, ap, _∙_}
 use mathlib.Core.Bool.{Bool, false, not}
 use Prim.Native.Nat.{ℕ, _≤_, _-_}

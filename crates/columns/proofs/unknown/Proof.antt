@@ -1,5 +1,4 @@
 -- The tests in order: each return is the first that holds.
--- Assumes nothing.
 use borrow.Author.Tests.{lt-ltb, le-ltb}
 use Rattle.columns.proofs.unknown.Statement.{statement}
 use Rattle.columns.proofs.unknown.Tie as tie

@@ -1,4 +1,4 @@
--- The turns fall; the buffer and the area keep their lengths. Assumes nothing.
+-- The turns fall; the buffer and the area keep their lengths.
 use mathlib.Core.Path.{_≡_}
 use lib.ListN.{length}
 use borrow.Author.Needs.{needs}

@@ -1,4 +1,4 @@
--- By the name. Assumes nothing.
+-- By the name.
 use mathlib.Core.Path.{sym, ap, _∙_}
 use lib.ListN.{drop}
 use mir.Syntax.{w64}

@@ -1,4 +1,4 @@
--- The entries passed and those of the rest make all of them (`Counted`). Assumes nothing.
+-- The entries passed and those of the rest make all of them (`Counted`).
 use mathlib.Core.Path.{sym}
 use Prim.Native.Nat.{_-_}
 use native.Mathlib.Omega.{arith}

@@ -1,4 +1,4 @@
--- By the three tests. Assumes nothing.
+-- By the three tests.
 use borrow.Author.Tests.{eq-eqb, ne-eqb}
 use Rattle.console_text.proofs.is_blank.Statement.{statement}
 use Rattle.console_text.proofs.is_blank.Tie as tie

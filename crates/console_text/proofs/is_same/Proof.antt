@@ -1,4 +1,4 @@
--- The words are the same from the start on exactly if they are from i on. Assumes nothing.
+-- The words are the same from the start on exactly if they are from i on.
 use mathlib.Core.Path.{_≡_, refl, sym, _∙_}
 use Prim.Native.Nat.{_≤_, _-_}
 use native.Mathlib.Numerals.{add-one}

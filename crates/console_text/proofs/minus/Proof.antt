@@ -1,4 +1,4 @@
--- -n is -1 - (n - 1), which fits up to n = 2^63. Assumes nothing.
+-- -n is -1 - (n - 1), which fits up to n = 2^63.
 use mathlib.Core.Path.{sym}
 use native.Mathlib.Omega.{arith}
 use borrow.Author.Needs.{needs}

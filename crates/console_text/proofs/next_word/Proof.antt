@@ -1,4 +1,4 @@
--- Blanks are passed over, and what is not blank begins a word. Assumes nothing.
+-- Blanks are passed over, and what is not blank begins a word.
 use mathlib.Core.Path.{_∙_}
 use native.Mathlib.Omega.{arith}
 use borrow.Author.Needs.{needs}

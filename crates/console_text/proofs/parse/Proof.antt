@@ -1,4 +1,4 @@
--- By the first word. Assumes nothing.
+-- By the first word.
 use mathlib.Core.Path.{sym, ap, _∙_}
 use borrow.Author.Needs.{needs}
 use borrow.Author.Tests.{eq-eqb, ne-eqb}

@@ -1,4 +1,4 @@
--- A number up to 2^63 - 1 is itself. Assumes nothing.
+-- A number up to 2^63 - 1 is itself.
 use mathlib.Core.Path.{sym}
 use borrow.Author.Needs.{needs}
 use native.Mathlib.Omega.{arith}

@@ -1,4 +1,4 @@
--- What is left to store gives the whole columns (`Stored`). Assumes nothing.
+-- What is left to store gives the whole columns (`Stored`).
 use mathlib.Core.Path.{refl, ap}
 use Prim.Native.Nat.{_-_}
 use native.Mathlib.Omega.{arith}

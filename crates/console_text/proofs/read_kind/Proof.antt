@@ -1,4 +1,4 @@
--- By the tests in their order. Assumes nothing.
+-- By the tests in their order.
 use mathlib.Core.Path.{sym, _∙_}
 use borrow.Author.Needs.{needs}
 use Rattle.console_text.specs.Command.{kind-of}

@@ -1,4 +1,4 @@
--- By the tests in their order (`Names`). Assumes nothing.
+-- By the tests in their order (`Names`).
 use mathlib.Core.Path.{_≡_, refl, sym, _∙_}
 use Rattle.console_text.specs.declared.Bare.the-variants.{Open, Propagate, Trail}
 use Rattle.console_text.specs.declared.Name.the-variants as name

@@ -1,4 +1,4 @@
--- Four words, read as they should be, and the entries behind them. Assumes nothing.
+-- Four words, read as they should be, and the entries behind them.
 use mathlib.Core.Path.{sym, ap, _∙_}
 use native.Mathlib.Nat.{le-of-lt}
 use mir.Syntax.{w64}

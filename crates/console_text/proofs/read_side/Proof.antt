@@ -1,4 +1,4 @@
--- By the two tests. Assumes nothing.
+-- By the two tests.
 use mathlib.Core.Path.{sym, _∙_}
 use borrow.Author.Needs.{needs}
 use Rattle.console_text.specs.Command.{side-of}

@@ -1,4 +1,4 @@
--- By the first byte. Assumes nothing.
+-- By the first byte.
 use mathlib.Core.Path.{sym, ap, _∙_}
 use native.Mathlib.Omega.{arith}
 use borrow.Author.Needs.{needs}

@@ -1,4 +1,4 @@
--- What is left of the word, behind digits of the value n, gives the whole answer. A value past the limit only grows. Assumes nothing.
+-- What is left of the word, behind digits of the value n, gives the whole answer. A value past the limit only grows.
 use mathlib.Core.Path.{_≡_, sym, _∙_}
 use Prim.Native.Nat.{_≤_, _-_}
 use native.Mathlib.Numerals.{add-one}

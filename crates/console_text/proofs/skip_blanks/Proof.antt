@@ -1,4 +1,4 @@
--- Every byte passed is blank, so that the words stay the same. Assumes nothing.
+-- Every byte passed is blank, so that the words stay the same.
 use mathlib.Core.Path.{_≡_, refl, sym, _∙_}
 use Prim.Native.Nat.{_≤_, _-_}
 use native.Mathlib.Numerals.{add-one}

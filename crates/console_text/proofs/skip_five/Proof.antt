@@ -1,4 +1,4 @@
--- The words behind k words are those of the rest. Assumes nothing.
+-- The words behind k words are those of the rest.
 use mathlib.Core.Path.{_≡_, refl, sym, ap, _∙_}
 use Prim.Native.Nat.{ℕ, _≤_, _-_}
 use native.Mathlib.Numerals.{add-one}

@@ -1,4 +1,4 @@
--- A store behind the column's end changes nothing. Assumes nothing.
+-- A store behind the column's end changes nothing.
 use mathlib.Core.Path.{sym}
 use lib.Seq.{set-out}
 use borrow.Author.Needs.{needs}

@@ -1,4 +1,4 @@
--- Two words, both numbers (`Entries`). Assumes nothing.
+-- Two words, both numbers (`Entries`).
 use mathlib.Core.Path.{sym, _∙_}
 use native.Mathlib.Omega.{arith}
 use mir.Syntax.{w64}

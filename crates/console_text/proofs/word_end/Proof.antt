@@ -1,4 +1,4 @@
--- The bytes from `from` up to i are one run of the rest's words. Assumes nothing.
+-- The bytes from `from` up to i are one run of the rest's words.
 use mathlib.Core.Path.{_≡_, sym, _∙_}
 use Prim.Native.Nat.{_≤_, _<_, _-_}
 use native.Mathlib.Numerals.{add-one}

@@ -1,4 +1,4 @@
--- Value and code fit one word. Assumes nothing.
+-- Value and code fit one word.
 use mathlib.Core.Path.{refl}
 use native.Mathlib.Omega.{arith}
 use Rattle.dalelead_c.proofs.answer.Statement.{statement}

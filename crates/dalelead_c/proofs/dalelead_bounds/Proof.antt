@@ -1,4 +1,4 @@
--- Refused, too few lent words, or the bounds at their front (`Reporting`). Assumes nothing.
+-- Refused, too few lent words, or the bounds at their front (`Reporting`).
 use mathlib.Core.Path.{refl}
 use native.Mathlib.Omega.{arith}
 use Rattle.whole.specs.Parts.{counters}

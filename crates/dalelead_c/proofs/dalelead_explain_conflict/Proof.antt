@@ -1,4 +1,4 @@
--- The list call's code and value in one number, which fits (`Sizes`). Assumes nothing.
+-- The list call's code and value in one number, which fits (`Sizes`).
 use lib.ListN.{length}
 use Rattle.book.specs.Table.{explain-conflict}
 use Rattle.whole.specs.Parts.{counters}

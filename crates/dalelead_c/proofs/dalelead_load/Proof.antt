@@ -1,4 +1,4 @@
--- Refused, too few lent words, or loaded with the counters 0 and 0 (`Loading`). Assumes nothing.
+-- Refused, too few lent words, or loaded with the counters 0 and 0 (`Loading`).
 use mathlib.Core.Path.{refl, sym, subst}
 use native.Mathlib.Omega.{arith}
 use lib.ListN.{length}

@@ -1,4 +1,4 @@
--- Each test is a limit of document 01 (`Needed`). Assumes nothing.
+-- Each test is a limit of document 01 (`Needed`).
 use mathlib.Core.Path.{ap}
 use Prim.Native.Nat.{_≤_}
 use native.Mathlib.Omega.{arith}

@@ -1,4 +1,4 @@
--- Too few lent words, 9, still or a conflict; the count is the trail's growth. Assumes nothing.
+-- Too few lent words, 9, still or a conflict; the count is the trail's growth.
 use mathlib.Core.Path.{refl}
 use native.Mathlib.Omega.{arith}
 use Rattle.book.specs.Table.{propagate}

@@ -1,4 +1,4 @@
--- A refusal is handed on; otherwise the counters stand at the front. Assumes nothing.
+-- A refusal is handed on; otherwise the counters stand at the front.
 use mathlib.Core.Path.{refl}
 use borrow.Author.Needs.{needs}
 use Rattle.dalelead_c.proofs.finish.Statement.{statement}

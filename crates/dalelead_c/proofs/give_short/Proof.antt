@@ -1,4 +1,4 @@
--- The tests are the table's (`Giving`). Assumes nothing.
+-- The tests are the table's (`Giving`).
 use mathlib.Core.Path.{_≡_, sym, ap, _∙_}
 use Prim.Native.Nat.{ℕ, _≤_}
 use native.Mathlib.Omega.{arith}

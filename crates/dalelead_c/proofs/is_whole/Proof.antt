@@ -1,4 +1,4 @@
--- The check at the limits of document 01 is the check within them. Assumes nothing.
+-- The check at the limits of document 01 is the check within them.
 use mathlib.Core.Path.{sym, subst}
 use Rattle.types.specs.Limits.{Fitting}
 use Rattle.load.proofs.Base.{base-fits}

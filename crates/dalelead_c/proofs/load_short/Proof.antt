@@ -1,4 +1,4 @@
--- Load's refusal, or 18. Assumes nothing.
+-- Load's refusal, or 18.
 use mathlib.Core.Path.{_≡_, sym, ap, _∙_, subst}
 use native.Mathlib.Omega.{arith}
 use Rattle.types.specs.declared.Limits.{Limits}

@@ -1,4 +1,4 @@
--- The test is the table's (`Replies`). Assumes nothing.
+-- The test is the table's (`Replies`).
 use mathlib.Core.Path.{sym, ap}
 use Prim.Native.Nat.{_<_, _≤_}
 use native.Mathlib.Omega.{arith}

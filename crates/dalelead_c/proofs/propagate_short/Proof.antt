@@ -1,4 +1,4 @@
--- Propagate refuses nothing but 9. Assumes nothing.
+-- Propagate refuses nothing but 9.
 use native.Mathlib.Omega.{arith}
 use Rattle.types.specs.Limits.{base}
 use Rattle.decide.proofs.Tells.{denied, granted}

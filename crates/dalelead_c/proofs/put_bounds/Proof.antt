@@ -1,4 +1,4 @@
--- Four stores at the front, each of a number that fits. Assumes nothing.
+-- Four stores at the front, each of a number that fits.
 use native.Mathlib.Omega.{arith}
 use lib.ListN.{length-set}
 use Rattle.dalelead_c.proofs.Fronts.{bounds-front}

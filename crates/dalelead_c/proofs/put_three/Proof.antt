@@ -1,4 +1,4 @@
--- Three stores at the front. Assumes nothing.
+-- Three stores at the front.
 use native.Mathlib.Omega.{arith}
 use lib.ListN.{length-set}
 use Rattle.dalelead_c.proofs.Fronts.{three-front}

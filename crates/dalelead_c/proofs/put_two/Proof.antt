@@ -1,4 +1,4 @@
--- Two stores at the front. Assumes nothing.
+-- Two stores at the front.
 use Rattle.dalelead_c.proofs.Fronts.{two-front}
 use borrow.Author.Needs.{needs}
 use Rattle.dalelead_c.proofs.put_two.Statement.{statement}

@@ -1,4 +1,4 @@
--- The test is the table's (`Replies`). Assumes nothing.
+-- The test is the table's (`Replies`).
 use mathlib.Core.Path.{sym, ap}
 use native.Mathlib.Omega.{arith}
 use Rattle.types.specs.Limits.{base}

@@ -1,4 +1,4 @@
--- The loop gives the literals that it passes; what is left of the list falls. Assumes nothing.
+-- The loop gives the literals that it passes; what is left of the list falls.
 use borrow.Author.Needs.{needs}
 use mathlib.Core.Path.{_≡_}
 use Prim.Native.Nat.{_≤_, _-_}

@@ -1,4 +1,4 @@
--- The loop opens 1,025 times; what is left of the turns falls. Assumes nothing.
+-- The loop opens 1,025 times; what is left of the turns falls.
 use borrow.Author.Needs.{needs}
 use mathlib.Core.Path.{_≡_}
 use Prim.Native.Nat.{_≤_, _-_}

@@ -1,4 +1,4 @@
--- Those found before a place and those from it on make up all (`Loops`). Assumes nothing.
+-- Those found before a place and those from it on make up all (`Loops`).
 use mathlib.Core.Path.{sym, subst}
 use mathlib.Core.Logic.{⊎-elim}
 use Prim.Native.Nat.{ℕ, _+_, _-_, _≤_}

@@ -1,4 +1,4 @@
--- Of the three things that a sentence can say, one is a conflict (`Conflicts`). Assumes nothing.
+-- Of the three things that a sentence can say, one is a conflict (`Conflicts`).
 use borrow.Author.Needs.{needs}
 use Rattle.explain.proofs.Conflicts.{silence-told, conflict-told, forced-told}
 use Rattle.explain.proofs.in_conflict.Statement.{statement}

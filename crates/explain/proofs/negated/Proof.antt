@@ -1,4 +1,4 @@
--- The negation of an even word is its atom's opposite, and of an odd one its atom. Assumes nothing.
+-- The negation of an even word is its atom's opposite, and of an odd one its atom.
 use borrow.Author.Needs.{needs}
 use Rattle.explain.proofs.Opposites.{negated-safe, negated-even, negated-odd}
 use Rattle.explain.proofs.negated.Statement.{statement}

@@ -1,4 +1,4 @@
--- The tests are those of the table (`Replies`), and the list is its answer (`Answers`). Assumes nothing.
+-- The tests are those of the table (`Replies`), and the list is its answer (`Answers`).
 use mathlib.Core.Path.{_≡_, subst}
 use mathlib.Core.Bool.{Bool}
 use Prim.Native.Nat.{_-_}

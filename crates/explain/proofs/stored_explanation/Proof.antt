@@ -1,4 +1,4 @@
--- The tests are those of the table (`Replies`), and the list is its answer (`Answers`). Assumes nothing.
+-- The tests are those of the table (`Replies`), and the list is its answer (`Answers`).
 use mathlib.Core.Path.{_≡_, sym, ap, subst, _∙_}
 use Prim.Native.Nat.{ℕ, _<_, _≤_}
 use native.Mathlib.Omega.{arith}

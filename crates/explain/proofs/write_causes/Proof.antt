@@ -1,4 +1,4 @@
--- Those before a place are written, and those from it on make up the rest (`Loops`). Assumes nothing.
+-- Those before a place are written, and those from it on make up the rest (`Loops`).
 use mathlib.Core.Path.{sym, subst, _∙_}
 use mathlib.Core.Logic.{⊎-elim}
 use mathlib.Core.List.{List}

@@ -1,5 +1,5 @@
 -- `find::find` meets its contract. The sentences before s are silent, and nothing is found yet; in sentence s, scanning the words from
--- entry i on comes to what the sentence says. Assumes nothing.
+-- entry i on comes to what the sentence says.
 use mathlib.Core.Path.{_≡_, refl, sym, _∙_, subst}
 use mathlib.Core.Logic.{⊎-elim}
 use Prim.Native.Nat.{_+_, _-_, _≤_, _<_}

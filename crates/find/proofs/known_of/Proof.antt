@@ -1,5 +1,4 @@
 -- `find::known_of` meets its contract: an unmarked sentence is silent, and the stored bounds of a marked one are its extremes.
--- Assumes nothing.
 use borrow.Author.Needs.{needs}
 use Rattle.find.proofs.Sentences.{ready-of, extremes-of, unmarked, marked}
 use Rattle.find.proofs.known_of.Statement.{statement}

@@ -1,5 +1,4 @@
 -- `within` meets its contract: its two tests are those of `between`, of numbers that come back from their bits.
--- Assumes nothing.
 use mathlib.Core.Path.{_≡_}
 use mathlib.Core.Bool.{true, false}
 use lib.Signed.{leZ}

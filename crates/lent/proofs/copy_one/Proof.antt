@@ -1,4 +1,4 @@
--- Both numbers are stored where the place is inside; where it is not, nothing is said. Assumes nothing.
+-- Both numbers are stored where the place is inside; where it is not, nothing is said.
 use native.Mathlib.Omega.{arith}
 use borrow.Author.Needs.{needs}
 use Rattle.lent.proofs.copy_one.Statement.{statement}

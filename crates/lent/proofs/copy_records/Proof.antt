@@ -1,7 +1,6 @@
 -- `copy_records` meets its contract: a walk of its MIR by hand, with a loop. A turn looks into the records and copies the i-th, lends each
 -- column to `copy_one` for a lifetime of the call, and has them back. The loop's state is a `Turn`: after i records, the first i numbers of
 -- each array are the columns' (`Records.antt`). All that is known of `blank` and `copy_one` is that each meets its contract.
--- Assumes nothing.
 use mathlib.Core.Path.{_≡_, refl, sym, ap, subst}
 use mathlib.Core.List.{List, [], _∷_}
 use mathlib.Core.WellFounded.{WellFounded, InvImage·wf}

@@ -1,4 +1,4 @@
--- More than 4,096 records are what load itself refuses by 1; otherwise the fronts of the arrays are the columns. Assumes nothing.
+-- More than 4,096 records are what load itself refuses by 1; otherwise the fronts of the arrays are the columns.
 use native.Mathlib.Omega.{arith}
 use mathlib.Core.Path.{_≡_, sym, ap, subst, _∙_}
 use mathlib.Core.List.{List}

@@ -1,6 +1,5 @@
 -- `load_records` meets its contract: a walk of its MIR by hand. `copy_records` gets a copy of the lent list of records, and `load_copied` its
 -- answer by value, with the area lent on for good and copies of the other lists. All that is known of the two is that each meets its contract.
--- Assumes nothing.
 use mathlib.Core.Path.{_≡_, refl}
 use mathlib.Core.List.{List, [], _∷_}
 use Prim.Native.Nat.{ℕ}

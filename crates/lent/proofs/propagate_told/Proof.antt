@@ -1,4 +1,4 @@
--- Each case of the answer is told with the paper's numbers for it. Assumes nothing.
+-- Each case of the answer is told with the paper's numbers for it.
 use mathlib.Core.Path.{_≡_, subst}
 use mathlib.Core.List.{List}
 use Prim.Native.Nat.{ℕ}

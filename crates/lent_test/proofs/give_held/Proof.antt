@@ -1,5 +1,5 @@
 -- `give_held` meets its contract: a walk of its MIR by hand. The counters are a local, lent for a lifetime of the call of `give_in`, and back
--- after it. All that is known of `give_in` is that it meets its contract. Assumes nothing.
+-- after it. All that is known of `give_in` is that it meets its contract.
 use mathlib.Core.Path.{_≡_, refl, ap}
 use mathlib.Core.List.{List, [], _∷_}
 use Prim.Native.Nat.{ℕ, _<_, _^_}

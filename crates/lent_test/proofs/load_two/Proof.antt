@@ -1,6 +1,5 @@
 -- `load_two` meets its contract: a walk of its MIR by hand. The records are a local, lent for a lifetime of the call of `load_records`. The
 -- area is lent on for good, and of each list a copy is passed. All that is known of `load_records` is that it meets its contract.
--- Assumes nothing.
 use mathlib.Core.Path.{_≡_, refl, sym}
 use mathlib.Core.List.{List, [], _∷_}
 use Prim.Native.Nat.{ℕ, _*_, _<_, _^_}

@@ -1,5 +1,5 @@
 -- `propagate_held` meets its contract: a walk of its MIR by hand. The counters are a local, lent for a lifetime of the call of `propagate_in`, and back
--- after it. All that is known of `propagate_in` is that it meets its contract. Assumes nothing.
+-- after it. All that is known of `propagate_in` is that it meets its contract.
 use mathlib.Core.Path.{_≡_, refl, ap, subst}
 use mathlib.Core.List.{List, [], _∷_}
 use Prim.Native.Nat.{ℕ}

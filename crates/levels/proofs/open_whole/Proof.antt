@@ -1,5 +1,4 @@
 -- Refused at the highest level, and otherwise the level in word 0 rises (`Raising`).
--- Assumes nothing.
 use native.Mathlib.Omega.{arith}
 use borrow.Author.Needs.{needs}
 use Rattle.levels.proofs.Raising.{open-stops, open-raises}

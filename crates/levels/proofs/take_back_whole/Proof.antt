@@ -1,5 +1,4 @@
 -- Refused above the current level, nothing done at it, and below it rows cut, counters set and bounds renewed (`Lowering`).
--- Assumes nothing.
 use mathlib.Core.Path.{refl}
 use native.Mathlib.Omega.{arith}
 use borrow.Author.Needs.{needs}

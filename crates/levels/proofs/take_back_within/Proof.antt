@@ -1,5 +1,4 @@
 -- 9 where the check finds the area not whole, and otherwise what `take_back_whole` does.
--- Assumes nothing.
 use mathlib.Core.Path.{refl}
 use borrow.Author.Needs.{needs}
 use Rattle.decide.proofs.Tells.{denied, granted}

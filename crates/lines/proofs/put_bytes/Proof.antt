@@ -1,4 +1,4 @@
--- The first i bytes stand at the place (`Copied`). Assumes nothing.
+-- The first i bytes stand at the place (`Copied`).
 use Prim.Native.Nat.{_-_}
 use native.Mathlib.Omega.{arith}
 use lib.ListN.{length}

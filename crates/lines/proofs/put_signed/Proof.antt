@@ -1,4 +1,4 @@
--- By the sign. Assumes nothing.
+-- By the sign.
 use mathlib.Core.Path.{sym, ap, _∙_}
 use lib.IntN.{natAbs}
 use mir.Syntax.{w64}

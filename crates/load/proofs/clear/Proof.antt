@@ -1,4 +1,4 @@
--- Word 0 is written, and then words 1 on are 0 up to where the loop stands. Assumes nothing.
+-- Word 0 is written, and then words 1 on are 0 up to where the loop stands.
 use mathlib.Core.Path.{_∙_}
 use borrow.Author.Needs.{needs}
 use Prim.Native.Nat.{_≤_, _-_}

@@ -1,4 +1,4 @@
--- Load at the limits of document 01 is load within them. Assumes nothing.
+-- Load at the limits of document 01 is load within them.
 use mathlib.Core.Path.{sym, subst}
 use Rattle.types.specs.declared.Limits.{Limits}
 use Rattle.types.specs.Limits.{Fitting}

@@ -1,4 +1,4 @@
--- A refusal is returned before a word is written; otherwise the sentences are stored and their bounds renewed. Assumes nothing.
+-- A refusal is returned before a word is written; otherwise the sentences are stored and their bounds renewed.
 use mathlib.Core.Path.{refl, sym, ap, _∙_}
 use native.Mathlib.Omega.{arith}
 use lib.ListN.{length, getD-replicate}

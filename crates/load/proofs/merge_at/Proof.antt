@@ -1,4 +1,4 @@
--- The merge into a part of the area that is lent and taken back. Assumes nothing.
+-- The merge into a part of the area that is lent and taken back.
 use mathlib.Core.Path.{refl, _∙_}
 use Prim.Native.Nat.{_+_, _*_}
 use native.Mathlib.Omega.{arith}

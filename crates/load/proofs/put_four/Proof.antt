@@ -1,4 +1,4 @@
--- Four words written one after the other. Assumes nothing.
+-- Four words written one after the other.
 use native.Mathlib.Omega.{arith}
 use lib.ListN.{length-set}
 use Rattle.load.proofs.Puts.{four}

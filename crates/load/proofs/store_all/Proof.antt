@@ -1,5 +1,4 @@
 -- After the trail is cleared, the loop's invariant: the first s sentences are stored, and the entries of sentence s start at `from`.
--- Assumes nothing.
 use mathlib.Core.Path.{_≡_, _∙_, subst}
 use borrow.Author.Needs.{needs}
 use Prim.Native.Nat.{ℕ, _≤_, _-_, _+_}

@@ -1,4 +1,4 @@
--- The merge, and the record in two halves, leave the sentence stored. Assumes nothing.
+-- The merge, and the record in two halves, leave the sentence stored.
 use mathlib.Core.Path.{_≡_, sym, ap, _∙_, subst}
 use Prim.Native.Nat.{ℕ, _+_, _*_, _≤_}
 use native.Mathlib.Omega.{arith}

@@ -1,4 +1,4 @@
--- The loop writes the words that it passes; what is left of the length falls. Assumes nothing.
+-- The loop writes the words that it passes; what is left of the length falls.
 use borrow.Author.Needs.{needs}
 use Prim.Native.Nat.{_≤_, _-_}
 use lib.ListN.{length}

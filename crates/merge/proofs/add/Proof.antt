@@ -1,5 +1,5 @@
 -- An entry that is not taken changes nothing but the note of its literal; one that is taken is turned and put, and what it frees is added to
--- the constant. Assumes nothing.
+-- the constant.
 use mathlib.Core.Path.{sym, _∙_}
 use borrow.Author.Needs.{needs}
 use native.Mathlib.Omega.{arith}

@@ -1,5 +1,4 @@
 -- The first i entries of the columns are gathered; each entry may be taken after those before it, and at the end they are all.
--- Assumes nothing.
 use mathlib.Core.Path.{_≡_, refl, _∙_}
 use mathlib.Core.Bool.{false}
 use mathlib.Core.List.{[], _∷_, _++_}

@@ -1,4 +1,4 @@
--- By the kind: the sum less 2^62, the product of what is above 2^62, the larger or the smaller word. Assumes nothing.
+-- By the kind: the sum less 2^62, the product of what is above 2^62, the larger or the smaller word.
 use mathlib.Core.Path.{_≡_, sym, ap, _∙_}
 use borrow.Author.Needs.{needs}
 use native.Mathlib.Omega.{arith}

@@ -1,4 +1,4 @@
--- The word of a literal is twice its atom, and one more where it is negative. Assumes nothing.
+-- The word of a literal is twice its atom, and one more where it is negative.
 use mathlib.Core.Path.{_≡_}
 use mathlib.Core.Bool.{true, false}
 use borrow.Author.Needs.{needs}

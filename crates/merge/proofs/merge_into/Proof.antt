@@ -1,4 +1,4 @@
--- The passes one after the other leave the merge; sums and counts have the second. Assumes nothing.
+-- The passes one after the other leave the merge; sums and counts have the second.
 use mathlib.Core.Path.{sym, _∙_}
 use borrow.Author.Needs.{needs}
 use native.Mathlib.Omega.{arith}

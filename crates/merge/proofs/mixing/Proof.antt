@@ -1,4 +1,4 @@
--- Of the kinds that are no sum, a count mixes signs. Assumes nothing.
+-- Of the kinds that are no sum, a count mixes signs.
 use borrow.Author.Needs.{needs}
 use Rattle.merge.proofs.Signs.{mixes-two}
 use Rattle.merge.proofs.mixing.Statement.{statement}

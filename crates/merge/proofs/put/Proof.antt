@@ -1,5 +1,5 @@
 -- One entry more: the table's word at its literal is 0 or 1 more than the place of the literal's entry, and so it is put behind all others,
--- or joined in its place. Assumes nothing.
+-- or joined in its place.
 use mathlib.Core.Path.{_≡_}
 use Prim.Native.Nat.{ℕ, suc, _-_}
 use borrow.Author.Needs.{needs}

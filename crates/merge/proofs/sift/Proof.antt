@@ -1,4 +1,4 @@
--- The first m entries are those of the first k whose weight is not 0, and the words from entry k on are as they were. Assumes nothing.
+-- The first m entries are those of the first k whose weight is not 0, and the words from entry k on are as they were.
 use mathlib.Core.Path.{_≡_, refl}
 use Prim.Native.Nat.{_≤_, _-_}
 use borrow.Author.Needs.{needs}

@@ -1,4 +1,4 @@
--- A count takes a literal that was not noted, the other kinds take all. Assumes nothing.
+-- A count takes a literal that was not noted, the other kinds take all.
 use mathlib.Core.Path.{refl}
 use borrow.Author.Needs.{needs}
 use Rattle.merge.proofs.Signs.{taken-count, taken-other}

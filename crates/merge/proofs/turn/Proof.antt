@@ -1,4 +1,4 @@
--- The entry itself with nothing freed, or, of a negative literal in a sum or count, the opposite entry. Assumes nothing.
+-- The entry itself with nothing freed, or, of a negative literal in a sum or count, the opposite entry.
 use mathlib.Core.Path.{sym, _∙_}
 use borrow.Author.Needs.{needs}
 use native.Mathlib.Omega.{arith}

@@ -1,4 +1,4 @@
--- The words from `from` to i are 0, and those before are as they were. Assumes nothing.
+-- The words from `from` to i are 0, and those before are as they were.
 use mathlib.Core.Path.{_≡_, refl}
 use Prim.Native.Nat.{_≤_, _-_}
 use borrow.Author.Needs.{needs}

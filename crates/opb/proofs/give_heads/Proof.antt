@@ -1,5 +1,4 @@
 -- The loop gives the heads that it passes; what is left of the atoms falls.
--- Assumes nothing.
 use mathlib.Core.Path.{_≡_, refl}
 use Prim.Native.Nat.{_-_}
 use native.Mathlib.Omega.{arith}

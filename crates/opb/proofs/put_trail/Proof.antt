@@ -1,5 +1,4 @@
 -- The part of the list is within the list, which keeps its length.
--- Assumes nothing.
 use mathlib.Core.Path.{sym}
 use native.Mathlib.Omega.{arith}
 use borrow.Author.Needs.{needs}

@@ -1,5 +1,4 @@
 -- An answer 0 keeps to the room of the columns, and to the limits.
--- Assumes nothing.
 use mathlib.Core.Path.{sym}
 use native.Mathlib.Omega.{arith}
 use borrow.Author.Needs.{needs}

@@ -1,5 +1,4 @@
 -- One return for each test, in the order of the definition.
--- Assumes nothing.
 use mathlib.Core.Path.{sym, _∙_}
 use borrow.Author.Needs.{needs}
 use Rattle.opb_bytes.specs.Grammar.{c-fault}

@@ -1,5 +1,4 @@
 -- The table's rule holds at each of its 256 entries: one computed test.
--- Assumes nothing.
 use mathlib.Core.Bool.{Bool}
 use mathlib.Core.List.{List, [], _∷_}
 use Prim.Native.Nat.{ℕ}

@@ -1,5 +1,4 @@
 -- Each arm is the definition's clause for its phase; the last one stands for the phases in which the text is cut off.
--- Assumes nothing.
 use mathlib.Core.Path.{_≡_, refl, sym, _∙_, ap}
 use mathlib.Core.List.{List, [], _∷_}
 use Prim.Native.Nat.{ℕ}

@@ -1,5 +1,4 @@
 -- Three answers: another byte, the last byte of the text, or one before it.
--- Assumes nothing.
 use mathlib.Core.Path.{sym, _∙_}
 use native.Mathlib.Numerals.{add-one}
 use borrow.Author.Needs.{needs}

@@ -1,5 +1,4 @@
 -- A digit goes on with V; behind its last digit V's fault comes first, then the fixed text, of which nothing has been read.
--- Assumes nothing.
 use mathlib.Core.Path.{sym, subst}
 use Prim.Native.Nat.{_<_}
 use native.Mathlib.Omega.{arith}

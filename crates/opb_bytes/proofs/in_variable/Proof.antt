@@ -1,6 +1,5 @@
 -- A digit goes on with the number; behind its last digit its fault comes first, then the byte. A variable without a fault leaves room
 -- for an entry.
--- Assumes nothing.
 use mathlib.Core.Path.{sym, _∙_}
 use borrow.Author.Needs.{needs}
 use borrow.Author.Tests.{eq-eqb, ne-eqb}

@@ -1,5 +1,4 @@
 -- One return for each test, in the order of the definition.
--- Assumes nothing.
 use borrow.Author.Tests.{le-leb, lt-leb}
 use Rattle.opb_bytes.specs.Grammar.{long-fault}
 use Rattle.opb_bytes.proofs.long_fault.Statement.{statement}

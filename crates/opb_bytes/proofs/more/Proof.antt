@@ -1,5 +1,4 @@
 -- Size, digits and sign, each as its callee says.
--- Assumes nothing.
 use borrow.Author.Needs.{needs}
 use Rattle.opb_bytes.specs.Grammar.{more}
 use Rattle.opb_bytes.proofs.more.Statement.{statement}

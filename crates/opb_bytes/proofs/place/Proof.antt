@@ -1,5 +1,4 @@
 -- Each arm is the definition's clause for its phase.
--- Assumes nothing.
 use mathlib.Core.Path.{_≡_, sym, _∙_, ap, subst}
 use Prim.Native.Nat.{ℕ, _<_}
 use borrow.Author.Needs.{needs}

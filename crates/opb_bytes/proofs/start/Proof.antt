@@ -1,5 +1,4 @@
 -- The first state, field by field.
--- Assumes nothing.
 use borrow.Author.Needs.{needs}
 use Rattle.opb_bytes.proofs.start.Statement.{statement}
 use Rattle.opb_bytes.proofs.start.Tie as tie

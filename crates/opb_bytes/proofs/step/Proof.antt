@@ -1,5 +1,4 @@
 -- The byte's class is the table's.
--- Assumes nothing.
 use mathlib.Core.Path.{_∙_, ap}
 use borrow.Author.Needs.{needs}
 use Rattle.opb_bytes.specs.Grammar.{place}

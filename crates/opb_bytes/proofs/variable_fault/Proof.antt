@@ -1,5 +1,4 @@
 -- One return for each test, in the order of the definition.
--- Assumes nothing.
 use borrow.Author.Tests.{lt-ltb, le-ltb, le-leb, lt-leb}
 use Rattle.opb_bytes.specs.Grammar.{variable-fault}
 use Rattle.opb_bytes.proofs.variable_fault.Statement.{statement}

@@ -1,5 +1,4 @@
 -- Two cases: the first number is past the limit, or the rest of the limit is compared with the second.
--- Assumes nothing.
 use mathlib.Core.Path.{sym}
 use Prim.Native.Nat.{_+_}
 use native.Mathlib.Omega.{arith}

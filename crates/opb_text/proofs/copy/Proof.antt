@@ -1,5 +1,4 @@
 -- For `=` the terms stand once more behind themselves.
--- Assumes nothing.
 use native.Mathlib.Omega.{arith}
 use borrow.Author.Needs.{needs}
 use borrow.Author.Tests.{not-true, not-false}

@@ -1,5 +1,4 @@
 -- The invariant: what is left to read, from here, gives the whole answer. Each arm of the match is a turn of the definition.
--- Assumes nothing.
 use mathlib.Core.Path.{_∙_}
 use Prim.Native.Nat.{_-_}
 use native.Mathlib.Omega.{arith}

@@ -1,5 +1,4 @@
 -- The invariant: the columns hold what has been read, and what is left to read, from here, gives the whole text.
--- Assumes nothing.
 use Prim.Native.Nat.{_-_}
 use native.Mathlib.Omega.{arith}
 use borrow.Author.Needs.{needs}

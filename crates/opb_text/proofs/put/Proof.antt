@@ -1,5 +1,4 @@
 -- One store, or two at neighbouring rows.
--- Assumes nothing.
 use native.Mathlib.Omega.{arith}
 use borrow.Author.Needs.{needs}
 use borrow.Author.Tests.{not-true, not-false}

@@ -1,5 +1,4 @@
 -- One store, or two at neighbouring rows, of a number that fits.
--- Assumes nothing.
 use mathlib.Core.Path.{_∙_, ap}
 use Prim.Native.Nat.{_-_}
 use native.Mathlib.Omega.{arith}

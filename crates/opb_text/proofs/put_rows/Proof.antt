@@ -1,5 +1,4 @@
 -- Column by column, as the callees say.
--- Assumes nothing.
 use borrow.Author.Needs.{needs}
 use Rattle.opb_text.proofs.Fronts.{same-columns}
 use Rattle.opb_text.proofs.put_rows.Statement.{statement}

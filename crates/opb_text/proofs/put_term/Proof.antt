@@ -1,5 +1,4 @@
 -- Two stores, each of a number that fits.
--- Assumes nothing.
 use mathlib.Core.Path.{_∙_, ap}
 use borrow.Author.Needs.{needs}
 use lib.ListN.{set}

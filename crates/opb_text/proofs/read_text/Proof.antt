@@ -1,5 +1,4 @@
 -- The first pass decides; where it takes the text, the second fills.
--- Assumes nothing.
 use borrow.Author.Needs.{needs}
 use Rattle.columns.specs.Columns.{columns}
 use Rattle.opb_text.proofs.Replies.{told, refused-reply, taken-reply}

@@ -1,5 +1,4 @@
 -- The invariant: the first i numbers of the part stand once more behind it.
--- Assumes nothing.
 use mathlib.Core.Path.{refl}
 use Prim.Native.Nat.{_-_}
 use native.Mathlib.Omega.{arith}

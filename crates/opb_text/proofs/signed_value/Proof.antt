@@ -1,5 +1,4 @@
 -- The size fits an i64, and so does its opposite.
--- Assumes nothing.
 use mathlib.Core.Path.{sym, _∙_, ap}
 use mathlib.Core.Bool.{Bool, cond}
 use borrow.Author.Needs.{needs}

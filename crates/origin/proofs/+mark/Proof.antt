@@ -1,5 +1,4 @@
 -- The position falls at each call, and what one position adds and what those below it reach is what the position reaches (`Sweep`).
--- Assumes nothing.
 use native.Mathlib.Omega.{arith}
 use borrow.Author.Needs.{needs}
 use Rattle.origin.proofs.Sweep.{markable-below, swept-first, swept-later}

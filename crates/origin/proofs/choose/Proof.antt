@@ -1,4 +1,4 @@
--- One mark at the position, and what it reaches, are the marks that choose the origins (`Handing`). Assumes nothing.
+-- One mark at the position, and what it reaches, are the marks that choose the origins (`Handing`).
 use mathlib.Core.Path.{_∙_}
 use native.Mathlib.Omega.{arith}
 use lib.ListN.{length-set}

@@ -1,4 +1,4 @@
--- As many as were found so far are the chosen literals of the positions passed (`Chosen`). Assumes nothing.
+-- As many as were found so far are the chosen literals of the positions passed (`Chosen`).
 use mathlib.Core.Logic.{⊎-elim}
 use mathlib.Core.Path.{_≡_, sym, _∙_, ap}
 use Prim.Native.Nat.{ℕ, _-_, _≤_}

@@ -1,4 +1,4 @@
--- Both tests of the definition, one after the other. Assumes nothing.
+-- Both tests of the definition, one after the other.
 use mathlib.Core.Path.{sym, ap}
 use mathlib.Core.Bool.{Bool, not, _&&_}
 use lib.Dec.{eqb}

@@ -1,4 +1,4 @@
--- What was chosen is handed over, or 18 with its length (`Handing`). Assumes nothing.
+-- What was chosen is handed over, or 18 with its length (`Handing`).
 use Rattle.origin.proofs.Handing.{zeros-blank, fits, handed-short, handed-enough}
 use borrow.Author.Needs.{needs}
 use Rattle.origin.proofs.list_origins.Statement.{statement}

@@ -1,4 +1,4 @@
--- Each place's cause is marked, or it has none below the limit (`Naming`). Assumes nothing.
+-- Each place's cause is marked, or it has none below the limit (`Naming`).
 use mathlib.Core.Logic.{⊎-elim}
 use mathlib.Core.Path.{sym, subst}
 use Prim.Native.Nat.{_+_, _-_, _≤_}

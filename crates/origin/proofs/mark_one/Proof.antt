@@ -1,4 +1,4 @@
--- Not marked, or given, it adds nothing; otherwise the causes that its reason names (`Sweep`). Assumes nothing.
+-- Not marked, or given, it adds nothing; otherwise the causes that its reason names (`Sweep`).
 use native.Mathlib.Omega.{arith}
 use Rattle.origin.proofs.Sweep.{unmarked-adds, given-adds, derived-adds}
 use borrow.Author.Needs.{needs}

@@ -1,4 +1,4 @@
--- The tests are those of the table, and the literal's position gives its origins (`Replies`). Assumes nothing.
+-- The tests are those of the table, and the literal's position gives its origins (`Replies`).
 use mathlib.Core.Path.{_≡_, _∙_, ap, subst}
 use mathlib.Core.List.{List}
 use Prim.Native.Nat.{ℕ, _<_, _≤_}

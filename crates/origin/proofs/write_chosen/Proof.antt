@@ -1,5 +1,4 @@
 -- The chosen literals of the positions passed stand at the front of the list, and the rest of it is as it was (`Chosen`).
--- Assumes nothing.
 use mathlib.Core.Logic.{⊎-elim}
 use mathlib.Core.Path.{_≡_, sym, _∙_, ap, subst}
 use Prim.Native.Nat.{_+_, _-_, _≤_}

@@ -1,5 +1,4 @@
 -- 9 where the check finds the area not whole, and otherwise what the loop comes to (`Ending`).
--- Assumes nothing.
 use mathlib.Core.Path.{refl}
 use native.Mathlib.Omega.{arith}
 use borrow.Author.Needs.{needs}

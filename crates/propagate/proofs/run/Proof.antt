@@ -1,5 +1,4 @@
 -- What is left of the table's run comes to the whole run (`Reaching`), and what is found forced can be put on (`Forcing`).
--- Assumes nothing.
 use mathlib.Core.Path.{_≡_, refl}
 use Prim.Native.Nat.{_+_, _-_}
 use native.Mathlib.Omega.{arith}

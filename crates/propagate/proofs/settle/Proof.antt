@@ -1,5 +1,4 @@
 -- The sentences passed are cleared, and every other word is as it was (`Settling`).
--- Assumes nothing.
 use mathlib.Core.Path.{_≡_, subst}
 use Prim.Native.Nat.{_≤_, _-_}
 use native.Mathlib.Omega.{arith}

@@ -1,5 +1,4 @@
 -- The sentences passed are refreshed, and the words of the others are as they were (`Passing`).
--- Assumes nothing.
 use Prim.Native.Nat.{_≤_, _-_}
 use native.Mathlib.Omega.{arith}
 use borrow.Author.Needs.{needs}

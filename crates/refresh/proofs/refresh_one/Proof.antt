@@ -1,5 +1,4 @@
 -- Where no atom is touched nothing is written, and otherwise the three words of the record (`Renewing`).
--- Assumes nothing.
 use mathlib.Core.Path.{refl}
 use native.Mathlib.Omega.{arith}
 use lib.ListN.{length-set}

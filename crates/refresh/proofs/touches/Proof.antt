@@ -1,5 +1,4 @@
 -- The head's atom and those of the entries passed are not touched; at the first that is, the sentence is not untouched (`Touching`).
--- Assumes nothing.
 use borrow.Author.Needs.{needs}
 use native.Mathlib.Omega.{arith}
 use mathlib.Core.Path.{_≡_}

@@ -1,4 +1,4 @@
--- Not whole, it answers 9; whole, the table's answer. Assumes nothing.
+-- Not whole, it answers 9; whole, the table's answer.
 use borrow.Author.Needs.{needs}
 use Rattle.decide.proofs.Tells.{denied, granted}
 use Rattle.book.specs.Table.{bounds}

@@ -1,4 +1,4 @@
--- Not whole, it answers 9 and leaves the list; whole, the table's answer. Assumes nothing.
+-- Not whole, it answers 9 and leaves the list; whole, the table's answer.
 use mathlib.Core.Path.{refl}
 use borrow.Author.Needs.{needs}
 use Rattle.decide.proofs.Tells.{denied, granted}

@@ -1,4 +1,4 @@
--- An even word is its atom, and an odd one the atom's opposite. Assumes nothing.
+-- An even word is its atom, and an odd one the atom's opposite.
 use borrow.Author.Needs.{needs}
 use Rattle.reports.proofs.Signs.{literal-true, literal-safe, literal-false}
 use Rattle.reports.proofs.literal_of.Statement.{statement}

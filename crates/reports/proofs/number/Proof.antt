@@ -1,4 +1,4 @@
--- Less 2^62, a word below 2^63 is the number that it stands for. Assumes nothing.
+-- Less 2^62, a word below 2^63 is the number that it stands for.
 use borrow.Author.Needs.{needs}
 use Rattle.reports.proofs.Signs.{number-safe, number-is}
 use Rattle.reports.proofs.number.Statement.{statement}

@@ -1,4 +1,4 @@
--- The code's tests are those of the table, and the stored words those of the two values (`Replies`). Assumes nothing.
+-- The code's tests are those of the table, and the stored words those of the two values (`Replies`).
 use mathlib.Core.Path.{sym, _∙_, ap}
 use Prim.Native.Nat.{_-_}
 use native.Mathlib.Omega.{arith}

@@ -1,4 +1,4 @@
--- A list shorter than three numbers a row is left; another gets the rows (`Answers`). Assumes nothing.
+-- A list shorter than three numbers a row is left; another gets the rows (`Answers`).
 use native.Mathlib.Omega.{arith}
 use borrow.Author.Needs.{needs}
 use Rattle.area.specs.Layout.{atoms-of, length-of}

@@ -1,4 +1,4 @@
--- Word 0 and the words from 2^63 on are no numbers (`Values`). Assumes nothing.
+-- Word 0 and the words from 2^63 on are no numbers (`Values`).
 use borrow.Author.Needs.{needs}
 use Rattle.reports.proofs.Values.{value-below, value-above, value-at}
 use Rattle.reports.proofs.value_of.Statement.{statement}

@@ -1,4 +1,4 @@
--- Three stores, each of a number that fits. Assumes nothing.
+-- Three stores, each of a number that fits.
 use native.Mathlib.Omega.{arith}
 use lib.ListN.{length-set}
 use borrow.Author.Needs.{needs}

@@ -1,4 +1,4 @@
--- The first i rows stand at the front of the list, and the rest of it is as it was (`Rows`). Assumes nothing.
+-- The first i rows stand at the front of the list, and the rest of it is as it was (`Rows`).
 use mathlib.Core.Path.{_≡_, _∙_, subst}
 use Prim.Native.Nat.{_≤_, _-_}
 use native.Mathlib.Omega.{arith}

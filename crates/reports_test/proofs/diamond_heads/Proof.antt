@@ -1,4 +1,4 @@
--- The loop fills the array; what is left of it falls. Assumes nothing.
+-- The loop fills the array; what is left of it falls.
 use borrow.Author.Needs.{needs}
 use mathlib.Core.Path.{_≡_}
 use Prim.Native.Nat.{_≤_, _-_}

@@ -1,4 +1,4 @@
--- Each case of the answer is what the paper says of it, with the total before. Assumes nothing.
+-- Each case of the answer is what the paper says of it, with the total before.
 use mathlib.Core.Path.{_≡_, refl, sym, ap, subst}
 use native.Mathlib.Omega.{arith}
 use Prim.Native.Nat.{ℕ}

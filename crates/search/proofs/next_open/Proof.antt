@@ -1,4 +1,4 @@
--- Every literal before j has been passed, as its atom is on the trail; a literal's size is its atom (`Passing`). Assumes nothing.
+-- Every literal before j has been passed, as its atom is on the trail; a literal's size is its atom (`Passing`).
 use mathlib.Core.Path.{_≡_, refl, sym, ap, _∙_}
 use native.Mathlib.Omega.{arith}
 use Prim.Native.Nat.{ℕ, suc, _+_, _-_, _≤_}

@@ -1,5 +1,4 @@
 -- What is left to do from the words reached comes to the whole search (`Turning`); the list grows shorter by each literal tried.
--- Assumes nothing.
 use mathlib.Core.Path.{_≡_, refl, sym, ap, _∙_, subst}
 use native.Mathlib.Omega.{arith}
 use Prim.Native.Nat.{ℕ, suc, _+_, _-_, _*_, _≤_}

@@ -1,4 +1,4 @@
--- 9 where the check finds the area not whole, and otherwise what the loop does. Assumes nothing.
+-- 9 where the check finds the area not whole, and otherwise what the loop does.
 use mathlib.Core.Path.{refl}
 use Rattle.decide.proofs.Tells.{denied, granted}
 use borrow.Author.Needs.{needs}

@@ -1,4 +1,4 @@
--- The reply to opening a level is read off its code, and the literal is open in the opened state too (`Trying`). Assumes nothing.
+-- The reply to opening a level is read off its code, and the literal is open in the opened state too (`Trying`).
 use mathlib.Core.Path.{subst}
 use mir.Syntax.{w64}
 use mir.ValLaws.{toZ-ofZ}

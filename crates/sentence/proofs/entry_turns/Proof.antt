@@ -1,4 +1,4 @@
--- `sentence::entry_turns` meets its contract: an entry that is not open does not turn. Assumes nothing.
+-- `sentence::entry_turns` meets its contract: an entry that is not open does not turn.
 use borrow.Author.Tests.{eq-eqb, ne-eqb}
 use Rattle.sentence.proofs.entry_turns.Statement.{statement}
 use Rattle.sentence.proofs.entry_turns.Tie as tie

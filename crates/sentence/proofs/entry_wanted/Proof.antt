@@ -1,4 +1,4 @@
--- `sentence::entry_wanted` meets its contract: the step's, at the kind's empty value. Assumes nothing.
+-- `sentence::entry_wanted` meets its contract: the step's, at the kind's empty value.
 use mathlib.Core.Path.{ap, _∙_}
 use borrow.Author.Needs.{needs}
 use Rattle.sentence.specs.Words.{wanted-word}

@@ -1,5 +1,5 @@
 -- `sentence::extremes_of` meets its contract: the words that it reads are those of the sentence's rule, whose folds do not wrap and stand for
--- its extremes. Assumes nothing.
+-- its extremes.
 use mathlib.Core.Path.{sym, subst}
 use borrow.Author.Needs.{needs}
 use Rattle.area.specs.Layout.{entry-at, merged-at, entry-words, value-at}

@@ -1,5 +1,5 @@
 -- `sentence::folds` meets its contract. The loop's invariant: folding the contributions from entry i on, from `least` and from `greatest`,
--- comes to the whole folds, and does not wrap. Assumes nothing.
+-- comes to the whole folds, and does not wrap.
 use mathlib.Core.Path.{_≡_, ap, _∙_}
 use mathlib.Core.Bool.{true, false}
 use Prim.Native.Nat.{_-_, _/_, _≤_, _<_}

@@ -1,4 +1,4 @@
--- `sentence::folds_by_kind` meets its contract: in each arm the kind is the one that `folds` is called with. Assumes nothing.
+-- `sentence::folds_by_kind` meets its contract: in each arm the kind is the one that `folds` is called with.
 use mathlib.Core.Path.{subst}
 use borrow.Author.Needs.{needs}
 use Rattle.area.specs.Layout.{value-at, entry-words}

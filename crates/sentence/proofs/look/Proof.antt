@@ -1,5 +1,5 @@
 -- `sentence::look` meets its contract: the extremes that it is given are the folds, so that each branch is one of the answers of
--- Unscanned.antt. Assumes nothing.
+-- Unscanned.antt.
 use mathlib.Core.Path.{_≡_, refl, sym, ap, _∙_, subst}
 use mathlib.Core.Bool.{true, false, not}
 use mathlib.Core.Logic.{⊎-elim}

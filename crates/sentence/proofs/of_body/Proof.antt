@@ -1,4 +1,4 @@
--- `sentence::of_body` meets its contract: it takes the tests in the definition's order. Assumes nothing.
+-- `sentence::of_body` meets its contract: it takes the tests in the definition's order.
 use mathlib.Core.Path.{_≡_, sym, ap, _∙_}
 use mathlib.Core.Bool.{true, false}
 use borrow.Author.Tests.{not-true, not-false}

@@ -1,4 +1,4 @@
--- `sentence::of_head` meets its contract: it takes the tests in the definition's order. Assumes nothing.
+-- `sentence::of_head` meets its contract: it takes the tests in the definition's order.
 use borrow.Author.Needs.{needs}
 use Rattle.sentence.proofs.of_head.Statement.{statement}
 use Rattle.sentence.proofs.of_head.Tie as tie

@@ -1,5 +1,5 @@
 -- `sentence::says` meets its contract: what is known without a scan says what the sentence says, and where it is undecided the scan
--- decides. Assumes nothing.
+-- decides.
 use mathlib.Core.Path.{sym, subst}
 use borrow.Author.Needs.{needs}
 use Rattle.sentence.specs.Sentence.{SaidIs}

@@ -1,5 +1,5 @@
 -- `sentence::scan` meets its contract. The loop's invariant: scanning the words from entry i on comes to the whole answer, and turning
--- their open entries does not wrap. Assumes nothing.
+-- their open entries does not wrap.
 use mathlib.Core.Path.{_≡_, refl, sym, ap, _∙_}
 use mathlib.Core.Bool.{true}
 use Prim.Native.Nat.{_-_, _/_, _≤_, _<_}

@@ -1,5 +1,5 @@
 -- `sentence::second` meets its contract. The loop's invariant: from `best` and `next` on, the contributions from entry i on leave the whole
--- second best. Assumes nothing.
+-- second best.
 use mathlib.Core.Path.{_≡_, sym, ap, _∙_}
 use mathlib.Core.Logic.{⊎-elim}
 use Prim.Native.Nat.{_-_, _/_, _≤_, _<_}

@@ -1,4 +1,4 @@
--- `sentence::settled` meets its contract: where it says yes, the two tests are those of Unspoken.antt. Assumes nothing.
+-- `sentence::settled` meets its contract: where it says yes, the two tests are those of Unspoken.antt.
 use mathlib.Core.Path.{_≡_, sym, ap, _∙_}
 use mathlib.Core.Bool.{true, false, not, true≢false}
 use mathlib.Core.Logic.{⊎-elim}

@@ -1,5 +1,4 @@
 -- The test x < 0 is that of the number whose bits were passed.
--- Assumes nothing.
 use Rattle.signed.proofs.Casts.{told-sign}
 use Rattle.signed.proofs.negative.Statement.{statement}
 use Rattle.signed.proofs.negative.Tie as tie

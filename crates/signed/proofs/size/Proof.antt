@@ -1,5 +1,4 @@
 -- The size of a negative x is (-1 - x) + 1, and that of another is x.
--- Assumes nothing.
 use native.Mathlib.Omega.{arith}
 use Rattle.signed.proofs.Casts.{minus, plus}
 use Rattle.signed.proofs.size.Statement.{statement}

@@ -1,5 +1,4 @@
 -- `cut` meets its contract: `Cutting` holds at the head of the loop, and the measure is the rows left.
--- Assumes nothing.
 use borrow.Author.Needs.{needs}
 use native.Mathlib.Omega.{arith}
 use mathlib.Core.Path.{sym, subst}

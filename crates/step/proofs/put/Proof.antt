@@ -1,5 +1,4 @@
 -- `put` meets its contract: its four stores are those of `put-on`, and an open atom leaves room for a row.
--- Assumes nothing.
 use native.Mathlib.Omega.{arith}
 use lib.ListN.{length-set}
 use Rattle.step.proofs.PutOn.{room-left}

@@ -1,5 +1,4 @@
 -- The literal's word is even, the weight's is not that of 0, and the size is told by `near`.
--- Assumes nothing.
 use borrow.Author.Needs.{needs}
 use Rattle.decide.proofs.Tells.{told-no, told-same}
 use Rattle.theory_check.proofs.Weights.{itself-even, odd-other, some-weight, no-weight}

@@ -1,5 +1,4 @@
 -- A sum's or a count's constant is near 0; the word of another kind is compared with 0.
--- Assumes nothing.
 use mathlib.Core.Logic.{inl, inr}
 use borrow.Author.Needs.{needs}
 use Rattle.theory_check.proofs.Weights.{constant-sum, constant-other, told-equal}

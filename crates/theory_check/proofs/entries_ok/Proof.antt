@@ -1,5 +1,4 @@
 -- The entries passed are whole, apart and stamped, and `product` is their product (`Passed`).
--- Assumes nothing.
 use mathlib.Core.Path.{_∙_, sym, subst}
 use Prim.Native.Nat.{ℕ, _≤_, _<_, _-_, _+_, _*_, _%_}
 use native.Mathlib.Omega.{arith}

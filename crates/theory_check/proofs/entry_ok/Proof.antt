@@ -1,5 +1,4 @@
 -- The entry's atom is half its literal's word, and the kind's test tells of the weight.
--- Assumes nothing.
 use mathlib.Core.Path.{sym, _∙_}
 use native.Mathlib.Omega.{arith}
 use borrow.Author.Needs.{needs}

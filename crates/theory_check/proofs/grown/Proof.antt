@@ -1,6 +1,5 @@
 -- With a small factor the product does not wrap, and it is compared itself; otherwise `product ≤ 10^18 / factor`, before the product is
 -- taken, is that the product with the factor is at most 10^18.
--- Assumes nothing.
 use mathlib.Core.Path.{refl}
 use Prim.Native.Nat.{_≤_, _*_, _-_}
 use native.Mathlib.Omega.{arith}

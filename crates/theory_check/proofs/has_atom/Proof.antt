@@ -1,5 +1,4 @@
 -- The head's word at place 0, half the literal's word of a merged entry at its place, and no atom past them.
--- Assumes nothing.
 use native.Mathlib.Omega.{arith}
 use borrow.Author.Needs.{needs}
 use Rattle.decide.proofs.Tells.{told-no}

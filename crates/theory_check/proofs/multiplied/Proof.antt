@@ -1,5 +1,4 @@
 -- A word above that of 0 and up to 10^18 more is a weight of 1 to 10^18.
--- Assumes nothing.
 use native.Mathlib.Omega.{arith}
 use borrow.Author.Needs.{needs}
 use Rattle.decide.proofs.Tells.{told-yes, told-no}

@@ -1,5 +1,4 @@
 -- The two tests are those of the word's nearness to 2^62.
--- Assumes nothing.
 use borrow.Author.Needs.{needs}
 use Rattle.decide.proofs.Tells.{told-yes, told-no}
 use Rattle.theory_check.proofs.Weights.{near-yes, not-low, not-high}

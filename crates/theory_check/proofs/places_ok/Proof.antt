@@ -1,5 +1,4 @@
 -- The sentences passed stand at their places, and `before` is how many entries they were written with.
--- Assumes nothing.
 use mathlib.Core.Path.{_≡_, sym, ap, _∙_}
 use Prim.Native.Nat.{ℕ, _≤_, _<_, _-_, _*_}
 use native.Mathlib.Omega.{arith}

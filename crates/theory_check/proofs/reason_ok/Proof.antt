@@ -1,5 +1,4 @@
 -- A row with reason 0 has place 0; any other reason is a sentence, whose atom at the stored place is told by `has_atom`.
--- Assumes nothing.
 use native.Mathlib.Omega.{arith}
 use borrow.Author.Needs.{needs}
 use Rattle.decide.proofs.Tells.{told-no}

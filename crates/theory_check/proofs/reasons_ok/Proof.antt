@@ -1,5 +1,4 @@
 -- The rows passed have right reasons.
--- Assumes nothing.
 use Prim.Native.Nat.{ℕ, _≤_, _<_, _-_}
 use native.Mathlib.Omega.{arith}
 use borrow.Author.Needs.{needs}

@@ -1,5 +1,4 @@
 -- Each field's test tells of its clause.
--- Assumes nothing.
 use native.Mathlib.Omega.{arith}
 use borrow.Author.Needs.{needs}
 use Rattle.decide.proofs.Tells.{told-yes, told-no, denied, granted}

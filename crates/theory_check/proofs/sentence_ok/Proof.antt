@@ -1,5 +1,4 @@
 -- The record, the entries and the unused words are told of, and a sentence is whole where these are (`Sentences`).
--- Assumes nothing.
 use native.Mathlib.Omega.{arith}
 use borrow.Author.Needs.{needs}
 use Rattle.decide.proofs.Tells.{told-yes, told-no, denied, granted}

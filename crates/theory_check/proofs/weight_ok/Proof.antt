@@ -1,5 +1,4 @@
 -- Each kind's own test tells of its weights; after the first three tests a maximum or a minimum is left.
--- Assumes nothing.
 use mathlib.Core.Logic.{inl, inr}
 use borrow.Author.Needs.{needs}
 use Rattle.theory_check.proofs.Weights.{weight-sum, weight-product, weight-extreme}

@@ -1,5 +1,4 @@
 -- The four stores of `put` and the renewal of the sentences that have the one touched atom (`Advancing`).
--- Assumes nothing.
 use mathlib.Core.Path.{sym, subst}
 use Rattle.refresh.specs.Refresh.{Refreshable, Refreshed}
 use Rattle.trail.proofs.Advancing.{put-ready, refresh-ready, advance-done}

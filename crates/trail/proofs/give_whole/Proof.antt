@@ -1,5 +1,4 @@
 -- The tests are those of the table (`Giving`), and the literal's word and the level are what `advance` asks.
--- Assumes nothing.
 use mathlib.Core.Path.{_≡_, sym, ap, _∙_, subst}
 use Prim.Native.Nat.{ℕ, _≤_}
 use native.Mathlib.Omega.{arith}

@@ -1,5 +1,4 @@
 -- The check tells whether the area is whole; where it is not the call answers 9 and changes nothing.
--- Assumes nothing.
 use mathlib.Core.Path.{refl, subst}
 use mir.Syntax.{w64}
 use mir.ValLaws.{toZ-ofZ}

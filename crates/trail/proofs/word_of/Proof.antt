@@ -1,5 +1,4 @@
 -- A negative literal's word is twice its atom and one more, and another's is twice its atom.
--- Assumes nothing.
 use mathlib.Core.Path.{_≡_, sym, ap, _∙_}
 use mathlib.Core.Bool.{true, false}
 use Prim.Native.Nat.{ℕ, _+_, _*_}

@@ -1,5 +1,4 @@
 -- `front_ok` meets its contract: the words from 1 to below i are 0, and the measure is what is left.
--- Assumes nothing.
 use mathlib.Core.Path.{_≡_}
 use Prim.Native.Nat.{ℕ, _≤_, _<_, _-_}
 use native.Mathlib.Omega.{arith}

@@ -1,6 +1,5 @@
 -- `levels_ok` meets its contract: all levels rise up to `level` exactly where those of the rows left rise up to `high`, the level of
 -- the row passed last; the measure is the rows left.
--- Assumes nothing.
 use Prim.Native.Nat.{_≤_}
 use native.Mathlib.Omega.{arith}
 use borrow.Author.Needs.{needs}

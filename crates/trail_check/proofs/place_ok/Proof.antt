@@ -1,5 +1,4 @@
 -- `place_ok` meets its contract: its tests are the clauses, one by one.
--- Assumes nothing.
 use native.Mathlib.Omega.{arith}
 use borrow.Author.Needs.{needs}
 use Rattle.decide.proofs.Tells.{told-yes, told-no}

@@ -1,5 +1,4 @@
 -- `places_ok` meets its contract: the places below i pass, and the measure is what is left.
--- Assumes nothing.
 use Prim.Native.Nat.{ℕ, _≤_, _<_, _-_}
 use native.Mathlib.Omega.{arith}
 use borrow.Author.Needs.{needs}

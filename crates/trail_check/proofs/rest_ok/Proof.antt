@@ -1,5 +1,4 @@
 -- `rest_ok` meets its contract: the places from the length to below i are unused, and the measure is what is left.
--- Assumes nothing.
 use Prim.Native.Nat.{ℕ, _≤_, _<_, _-_}
 use native.Mathlib.Omega.{arith}
 use borrow.Author.Needs.{needs}

@@ -1,5 +1,4 @@
 -- `trail_ok` meets its contract: its tests are clauses of the trail, or tests index by index that hold exactly where those do.
--- Assumes nothing.
 use borrow.Author.Needs.{needs}
 use Rattle.decide.proofs.Tells.{told-yes, told-no, denied, granted}
 use Rattle.trail_check.proofs.Agreement.{trail-by-places, value-of-ok, place-of-ok, rest-of-ok}

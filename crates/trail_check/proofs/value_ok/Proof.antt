@@ -1,5 +1,4 @@
 -- `value_ok` meets its contract: its tests are the clauses, of a word that is not 0.
--- Assumes nothing.
 use native.Mathlib.Omega.{arith}
 use borrow.Author.Needs.{needs}
 use Rattle.decide.proofs.Tells.{told-yes, told-no}

@@ -1,5 +1,4 @@
 -- `values_ok` meets its contract: the value words of the atoms below a pass, and the measure is what is left.
--- Assumes nothing.
 use Prim.Native.Nat.{ℕ, suc, _≤_, _<_, _-_}
 use native.Mathlib.Omega.{arith}
 use borrow.Author.Needs.{needs}

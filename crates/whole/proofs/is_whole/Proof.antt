@@ -1,5 +1,4 @@
 -- Each part of the check tells of one of the parts of wholeness, and the parts together are wholeness (`Join`).
--- Assumes nothing.
 use native.Mathlib.Omega.{arith}
 use borrow.Author.Needs.{needs}
 use Rattle.decide.proofs.Tells.{told-no, told-same, denied, granted}

@@ -1,5 +1,4 @@
 -- The stored bounds are compared with the extremes, and what the sentence says with silence (`CheckMatching`).
--- Assumes nothing.
 use mathlib.Core.Path.{refl}
 use borrow.Author.Needs.{needs}
 use Rattle.whole.proofs.CheckMatching.{least-differs, greatest-differs, marked, silent, in-conflict, forcing}

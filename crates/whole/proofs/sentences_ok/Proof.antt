@@ -1,5 +1,4 @@
 -- The sentences passed are right over every trail that the values show, and no stamp is above their number (`Passed`).
--- Assumes nothing.
 use mathlib.Core.Path.{sym}
 use Prim.Native.Nat.{_+_, _-_, _≤_}
 use native.Mathlib.Omega.{arith}

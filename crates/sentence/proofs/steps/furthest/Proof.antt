@@ -1,4 +1,4 @@
--- `sentence::furthest` meets its contract: each branch is the larger or the lesser of the two words. Assumes nothing.
+-- `sentence::furthest` meets its contract: each branch is the larger or the lesser of the two words.
 use native.Mathlib.Omega.{arith}
 use Rattle.sentence.proofs.steps.furthest.Statement.{statement}
 use Rattle.sentence.proofs.steps.furthest.Tie as tie

@@ -1,4 +1,4 @@
--- `sentence::keep` meets its contract: each branch is the test in its direction. Assumes nothing.
+-- `sentence::keep` meets its contract: each branch is the test in its direction.
 use Rattle.sentence.proofs.steps.keep.Statement.{statement}
 use Rattle.sentence.proofs.steps.keep.Tie as tie
 

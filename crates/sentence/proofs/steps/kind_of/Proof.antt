@@ -1,4 +1,4 @@
--- `sentence::kind_of` meets its contract: the numbers from 4 on are the minimum's, as the layout has it. Assumes nothing.
+-- `sentence::kind_of` meets its contract: the numbers from 4 on are the minimum's, as the layout has it.
 use mathlib.Core.Path.{_≡_, refl}
 use Prim.Native.Nat.{ℕ, zero, suc}
 use borrow.Author.Needs.{needs}

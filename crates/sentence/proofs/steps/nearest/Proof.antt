@@ -1,4 +1,4 @@
--- `sentence::nearest` meets its contract: each branch is the lesser or the larger of the two words. Assumes nothing.
+-- `sentence::nearest` meets its contract: each branch is the lesser or the larger of the two words.
 use native.Mathlib.Omega.{arith}
 use Rattle.sentence.proofs.steps.nearest.Statement.{statement}
 use Rattle.sentence.proofs.steps.nearest.Tie as tie

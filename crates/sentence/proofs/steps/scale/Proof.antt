@@ -1,5 +1,4 @@
 -- `sentence::scale` meets its contract: a quotient is no larger than what is divided, and the product fits by what is asked.
--- Assumes nothing.
 use Prim.Native.Nat.{_-_}
 use native.Mathlib.Omega.{arith}
 use native.Mathlib.Nat.{div-le-self}

@@ -1,4 +1,4 @@
--- `sentence::step` meets its contract, kind by kind: what it asks of both steps is what each kind's operation asks. Assumes nothing.
+-- `sentence::step` meets its contract, kind by kind: what it asks of both steps is what each kind's operation asks.
 use mathlib.Core.Path.{subst}
 use borrow.Author.Needs.{needs}
 use Rattle.sentence.specs.declared.Kind.{Kind}

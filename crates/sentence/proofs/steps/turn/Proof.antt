@@ -1,4 +1,4 @@
--- `sentence::turn` meets its contract, kind by kind. Assumes nothing.
+-- `sentence::turn` meets its contract, kind by kind.
 use mathlib.Core.Path.{subst, ap, _∙_}
 use mathlib.Core.Bool.{not}
 use borrow.Author.Needs.{needs}

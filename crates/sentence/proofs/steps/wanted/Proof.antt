@@ -1,4 +1,4 @@
--- `sentence::wanted` meets its contract: the literal itself where the weight is the furthest, and else its opposite. Assumes nothing.
+-- `sentence::wanted` meets its contract: the literal itself where the weight is the furthest, and else its opposite.
 use mathlib.Core.Path.{sym, _∙_}
 use borrow.Author.Tests.{eq-eqb, ne-eqb}
 use borrow.Author.Needs.{needs}
