@@ -9,7 +9,7 @@ ghost use Rattle.calls.specs.Calls.{counted, done-paper, Acts};
 ghost use Rattle.levels.specs.Levels.{Asked};
 
 // On a whole area: only the level in word 0 rises.
-fn open_whole(area: &mut [u64], lim: Limits, counters: Counters) -> Done
+pub fn open_whole(area: &mut [u64], lim: Limits, counters: Counters) -> Done
     requires { ⌜ Asked lim (now area) (counted counters) ⌝ }
     ensures { λ r. ⌜ Acts lim (now (area .entry)) (now (area .exit)) (counted counters) (counted (r .counters)) open-level (done-paper r) ⌝ }
 {

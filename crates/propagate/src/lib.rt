@@ -7,6 +7,7 @@ ghost use Rattle.types.specs.Limits.{Fitting};
 ghost use Rattle.book.specs.Table.{propagate};
 ghost use Rattle.calls.specs.Calls.{counted, Acts};
 ghost use Rattle.find.specs.Find.{Searchable};
+ghost use Rattle.trail.specs.Ready.{Usable, Ready};
 ghost use Rattle.propagate.specs.Propagate.{propagated-paper, counters-of, Named, Stopped};
 ghost use Rattle.propagate.specs.Settle.{Settleable, Settled};
 
@@ -68,16 +69,13 @@ fn run(area: &mut [u64], n: usize, count: usize, len: usize, level: u64) -> End
     }
 }
 
-// Every step of the loop, from the current level; the level stays.
-pub fn propagate_within(area: &mut [u64], lim: Limits, counters: Counters) -> Propagated
-    requires { ⌜ Fitting lim ⌝ }
-    ensures { λ r. ⌜ Acts lim (now (area .entry)) (now (area .exit)) (counted counters) (counted (counters-of r)) propagate (propagated-paper r) × Named r ⌝ }
+// Every step of the loop on a whole area, from the current level; the level stays.
+pub fn propagate_whole(area: &mut [u64], counters: Counters) -> Propagated
+    requires { ⌜ Ready (now area) (counted counters) ⌝ }
+    ensures { λ r. ⌜ ((lim : Limits) → Usable lim (now (area .entry)) (counted counters) → Acts lim (now (area .entry)) (now (area .exit)) (counted counters) (counted (counters-of r)) propagate (propagated-paper r)) × Named r ⌝ }
 {
     let len = counters.length;
     let level = counters.level;
-    if !whole::is_whole(area, lim, len, level.0) {
-        return Propagated::Broken(counters);
-    }
     let n = (area[0] % 65536) as usize;
     let count = (area[0] / 65536 % 65536) as usize;
     let end = run(area, n, count, len as usize, level.0);
@@ -88,4 +86,14 @@ pub fn propagate_within(area: &mut [u64], lim: Limits, counters: Counters) -> Pr
         return Propagated::Still(put, next);
     }
     Propagated::Conflict(Sentence(end.sentence), put, next)
+}
+
+pub fn propagate_within(area: &mut [u64], lim: Limits, counters: Counters) -> Propagated
+    requires { ⌜ Fitting lim ⌝ }
+    ensures { λ r. ⌜ Acts lim (now (area .entry)) (now (area .exit)) (counted counters) (counted (counters-of r)) propagate (propagated-paper r) × Named r ⌝ }
+{
+    if !whole::is_whole(area, lim, counters.length, counters.level.0) {
+        return Propagated::Broken(counters);
+    }
+    propagate_whole(area, counters)
 }

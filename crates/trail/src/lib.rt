@@ -48,7 +48,8 @@ fn word_of(literal: i64, size: u64) -> u64
     2 * size
 }
 
-fn give_whole(area: &mut [u64], counters: Counters, literal: i64) -> Done
+// The caller's literal on a whole area, put on at the current level with no reason.
+pub fn give_whole(area: &mut [u64], counters: Counters, literal: i64) -> Done
     requires { ⌜ Ready (now area) (counted counters) ⌝ }
     ensures { λ r. ⌜ ((lim : Limits) → Usable lim (now (area .entry)) (counted counters) → Acts lim (now (area .entry)) (now (area .exit)) (counted counters) (counted (r .counters)) (give literal) (done-paper r)) ⌝ }
 {
@@ -77,7 +78,6 @@ fn give_whole(area: &mut [u64], counters: Counters, literal: i64) -> Done
     }
 }
 
-// The caller's literal, put on at the current level with no reason.
 pub fn give_within(area: &mut [u64], lim: Limits, counters: Counters, literal: i64) -> Done
     requires { ⌜ Fitting lim ⌝ }
     ensures { λ r. ⌜ Acts lim (now (area .entry)) (now (area .exit)) (counted counters) (counted (r .counters)) (give literal) (done-paper r) ⌝ }
