@@ -9,6 +9,7 @@ use lib.IntN.{ℤ, pos, natAbs}
 use lib.Signed.{leZ}
 use lib.Dec.{T}
 use Rattle.types.specs.declared.Limits.{Limits}
+use Rattle.types.specs.Limits.{weight-limit, bound-limit}
 use Rattle.numbers.specs.Extended.{up, down}
 use Rattle.numbers.specs.Words.{word as word-of}
 use Rattle.meaning.specs.Meaning.{atom, Entry, place, Kind, sum, product, count, maximum, minimum, mixes, multiplied, Each, silent}
@@ -28,19 +29,19 @@ Near z limit = natAbs z ≤ limit
 pub record Added (written : ℕ) (e : Entry) : Type 0 where
   pub itself : e .literal ≡ pos (place e)
   pub something : ¬ (e .weight ≡ pos 0)
-  pub size : Near (e .weight) (1000000000 * written)
+  pub size : Near (e .weight) (weight-limit * written)
 
 -- a merged product weight is 1 to 10^18
 pub record Multiplied (e : Entry) : Type 0 where
   pub low : T (leZ (pos 1) (e .weight))
-  pub high : Near (e .weight) 1000000000000000000
+  pub high : Near (e .weight) bound-limit
 
 abbrev pub WeightWhole : Kind → ℕ → Entry → Type 0
 WeightWhole sum written e = Added written e
 WeightWhole product written e = Multiplied e
 WeightWhole count written e = Added written e
-WeightWhole maximum written e = Near (e .weight) 1000000000
-WeightWhole minimum written e = Near (e .weight) 1000000000
+WeightWhole maximum written e = Near (e .weight) weight-limit
+WeightWhole minimum written e = Near (e .weight) weight-limit
 
 pub record EntryWhole (n head : ℕ) (kind : Kind) (written : ℕ) (e : Entry) : Type 0 where
   pub atom-low : 1 ≤ place e
@@ -62,11 +63,11 @@ pub record RuleWhole (lim : Limits) (n : ℕ) (r : Rule) : Type 0 where
   pub few : r .written ≤ lim .each
   pub head-low : 1 ≤ r .head
   pub head-high : r .head ≤ n
-  pub bound : Near (r .bound) 1000000000000000000
-  pub constant : Near (r .set .constant) (1000000000 * r .written)
+  pub bound : Near (r .bound) bound-limit
+  pub constant : Near (r .set .constant) (weight-limit * r .written)
   pub entries : Each (EntryWhole n (r .head) (r .kind) (r .written)) (r .set .entries)
   pub once : Once (r .set .entries)
-  pub product : r .kind ≡ product → T (leZ (multiplied (weights-of (r .set .entries))) (pos 1000000000000000000))
+  pub product : r .kind ≡ product → T (leZ (multiplied (weights-of (r .set .entries))) (pos bound-limit))
 
 -- the words of sentence s hold a sentence, with room for its written entries behind those of the sentences before it
 pub record SentenceWhole (lim : Limits) (w : List ℕ) (n S s : ℕ) : Type 0 where

@@ -1,1 +1,1 @@
-// The work area: its layout, when it is whole, and the check of its trail.
+// The work area: its layout, and when it is whole.

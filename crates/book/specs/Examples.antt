@@ -110,7 +110,7 @@ story-12 = story 2 (ring 1 2 ∷ ring 2 1 ∷ [])
 
 abbrev pub refusing : Story
 refusing = record {
-  limits = record { atoms = 1024; sentences = 256; entries = 4096; each = 1024; levels = 1 };
+  limits = record { atoms = base .atoms; sentences = base .sentences; entries = base .entries; each = base .each; levels = 1 };
   atoms = 3;
   sentences = m4 ∷ [];
   turns =

@@ -13,8 +13,9 @@ use mir.ValLaws.{toZ-ofZ}
 use borrow.Author.Tests.{lt-ltb, le-ltb, eq-eqb, ne-eqb, eqb-false, ltb-false, leb-true, not-false}
 use Rattle.decide.specs.Below.{product-below}
 use Rattle.decide.proofs.Below.{product-step}
-use Rattle.meaning.specs.Meaning.{atom, product}
-use Rattle.kinds.specs.Kinds.{weight-fits}
+use Rattle.meaning.specs.Meaning.{atom, Kind, product}
+use Rattle.kinds.specs.Kinds.{between, weight-fits}
+use Rattle.area.specs.Layout.{kind-of}
 use Rattle.columns.specs.Refusals.{no-atom}
 
 -- ---- disjunctions
@@ -41,6 +42,17 @@ right-false false b e = e
 
 pub of-element : {A : Type 0} (f : ℤ → A) (z : ℤ) → SFits w64 z → f (toZ w64 (ofZ w64 z)) ≡ f z
 of-element {A} f z s = ap {A = ℤ} {B = A} f (toZ-ofZ w64 z s)
+
+-- a constant of kind k, passed on as that of the kind numbered n
+pub by-number : (f : Kind → ℤ) {k : Kind} {z : ℤ} (n : ℕ) → SFits w64 z → z ≡ f k → k ≡ kind-of n → toZ w64 (ofZ w64 z) ≡ f (kind-of n)
+by-number f {k} {z} n s e q = toZ-ofZ w64 z s ∙ e ∙ ap f q
+
+-- a range and a number, passed on to be compared
+pub told-between : {x y z l g : ℤ} {r : Bool} → SFits w64 x → SFits w64 y → SFits w64 z → x ≡ l → y ≡ g
+    → r ≡ between (toZ w64 (ofZ w64 x)) (toZ w64 (ofZ w64 y)) (toZ w64 (ofZ w64 z)) → r ≡ between l g z
+told-between {x} {y} {z} {l} {g} s t u d e told =
+    told ∙ ap (λ a. between a (toZ w64 (ofZ w64 y)) (toZ w64 (ofZ w64 z))) (toZ-ofZ w64 x s ∙ d)
+    ∙ ap (λ a. between l a (toZ w64 (ofZ w64 z))) (toZ-ofZ w64 y t ∙ e) ∙ of-element (between l g) z u
 
 pub size-atom : (l : ℤ) → natAbs l ≡ atom l
 size-atom (pos a) = refl

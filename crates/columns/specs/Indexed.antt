@@ -7,6 +7,7 @@ use lib.IntN.{ℤ, pos, negℤ, natAbs}
 use lib.ListN.{length, getD}
 use lib.Dec.{eqb, ltb}
 use Rattle.types.specs.declared.Limits.{Limits}
+use Rattle.types.specs.Limits.{bound-limit}
 use Rattle.decide.specs.Below.{some-below, product-below}
 use Rattle.meaning.specs.Meaning.{atom, same}
 use Rattle.kinds.specs.Kinds.{weight-fits}
@@ -63,7 +64,7 @@ negated literals = some-below (length literals) (negated-before literals)
 
 -- 8, of the written weights
 abbrev pub product-above : List ℤ → Bool
-product-above weights = ltb 1000000000000000000 (product-below (length weights) (λ i. natAbs (nth weights i)))
+product-above weights = ltb bound-limit (product-below (length weights) (λ i. natAbs (nth weights i)))
 
 -- the first of 3 to 8 that a sentence is refused for, or 0
 abbrev pub sentence-code : Limits → ℕ → Written → ℕ

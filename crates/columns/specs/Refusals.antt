@@ -7,6 +7,7 @@ use lib.ListN.{length}
 use lib.Signed.{leZ}
 use lib.Dec.{eqb, ltb}
 use Rattle.types.specs.declared.Limits.{Limits}
+use Rattle.types.specs.Limits.{bound-limit}
 use Rattle.decide.specs.Below.{sum-first}
 use Rattle.meaning.specs.Meaning.{Entry, place, product, mixes, same, multiplied}
 use Rattle.meaning.specs.Merge.{merge}
@@ -48,7 +49,7 @@ strange n x = no-atom n (x .head) || some (λ e. no-atom n (place e)) (x .entrie
 
 -- 5: weight or bound outside its range
 abbrev pub bound-fits : ℤ → Bool
-bound-fits b = between (negℤ (pos 1000000000000000000)) (pos 1000000000000000000) b
+bound-fits b = between (negℤ (pos bound-limit)) (pos bound-limit) b
 
 abbrev pub out-of-range : Written → Bool
 out-of-range x = some (λ e. not (weight-fits (kind-of (x .kind)) (e .weight))) (x .entries) || not (bound-fits (x .bound))
@@ -70,7 +71,7 @@ abbrev pub is-product : ℕ → Bool
 is-product k = eqb k 1
 
 abbrev pub too-great : Written → Bool
-too-great x = is-product (x .kind) && not (leZ (multiplied (weights-of (merge product (x .entries) .entries))) (pos 1000000000000000000))
+too-great x = is-product (x .kind) && not (leZ (multiplied (weights-of (merge product (x .entries) .entries))) (pos bound-limit))
 
 -- ---- the table
 

@@ -12,20 +12,18 @@ ghost use mathlib.Core.Bool.{false, not, _||_, _&&_};
 ghost use Prim.Native.Nat.{_+_, _≤_};
 ghost use lib.Dec.{eqb};
 ghost use lib.ListN.{length};
-ghost use Rattle.types.specs.Limits.{Fitting};
+ghost use Rattle.types.specs.Limits.{widest, Fitting};
 ghost use Rattle.decide.specs.Below.{sum-first};
 ghost use Rattle.meaning.specs.Meaning.{mixes};
-ghost use Rattle.kinds.specs.Kinds.{weight-fits};
+ghost use Rattle.kinds.specs.Kinds.{least-weight, greatest-weight, between};
 ghost use Rattle.area.specs.Layout.{kind-of, sign};
 ghost use Rattle.columns.specs.Columns.{columns, written, all-written};
 ghost use Rattle.columns.specs.Refusals.{misshapen, no-atom, bound-fits, all-refusals, first-refusal, load-answer};
 ghost use Rattle.columns.specs.Indexed.{above-limits, unequal-sizes, unknown-shape, no-literal, unfit-weights, head-inside, negated, product-above, sentence-code};
 
-const LEAST_BOUND: i64 = -1_000_000_000_000_000_000;
+const LEAST_BOUND: i64 = -Limits::BOUND;
 
-const GREATEST_BOUND: i64 = 1_000_000_000_000_000_000;
-
-const GREATEST_PRODUCT: u64 = 1_000_000_000_000_000_000;
+const GREATEST_PRODUCT: u64 = Limits::BOUND as u64;
 
 // 0, or the refusal's number with the sentence that it is about, 0 for none.
 pub struct Answer {
@@ -144,25 +142,45 @@ fn strange(n: u64, head: u64, literals: &[i64]) -> bool
 
 // ---- 5: ranges
 
-fn fits(kind: u64, w: i64) -> bool
-    ensures { λ r. ⌜ r ≡ weight-fits (kind-of kind) w ⌝ }
+fn least_weight(kind: u64) -> i64
+    ensures { λ r. ⌜ r ≡ least-weight (kind-of kind) ⌝ }
 {
     match kind {
-        0 => Sum::fits(w),
-        1 => Product::fits(w),
-        2 => Count::fits(w),
-        3 => Max::fits(w),
-        _ => Min::fits(w),
+        0 => Sum::least(),
+        1 => Product::least(),
+        2 => Count::least(),
+        3 => Max::least(),
+        _ => Min::least(),
     }
+}
+
+fn greatest_weight(kind: u64) -> i64
+    ensures { λ r. ⌜ r ≡ greatest-weight (kind-of kind) ⌝ }
+{
+    match kind {
+        0 => Sum::greatest(),
+        1 => Product::greatest(),
+        2 => Count::greatest(),
+        3 => Max::greatest(),
+        _ => Min::greatest(),
+    }
+}
+
+fn within(least: i64, greatest: i64, w: i64) -> bool
+    ensures { λ r. ⌜ r ≡ between least greatest w ⌝ }
+{
+    if least <= w { w <= greatest } else { false }
 }
 
 fn unfit(kind: u64, weights: &[i64]) -> bool
     ensures { λ r. ⌜ r ≡ unfit-weights kind (now (weights .entry)) ⌝ }
 {
+    let least = least_weight(kind);
+    let greatest = greatest_weight(kind);
     let mut i = 0;
     while i < weights.len() {
         let w = weights[i];
-        if !fits(kind, w) {
+        if !within(least, greatest, w) {
             return true;
         }
         i += 1;
@@ -173,11 +191,7 @@ fn unfit(kind: u64, weights: &[i64]) -> bool
 fn bound_ok(bound: i64) -> bool
     ensures { λ r. ⌜ r ≡ bound-fits bound ⌝ }
 {
-    if LEAST_BOUND <= bound {
-        bound <= GREATEST_BOUND
-    } else {
-        false
-    }
+    within(LEAST_BOUND, Limits::BOUND, bound)
 }
 
 fn out_of_range(kind: u64, bound: i64, weights: &[i64]) -> bool
@@ -220,7 +234,7 @@ fn mark(literal: i64) -> u8
 
 // In the table stands the mark of each atom met so far.
 fn both_signs(literals: &[i64]) -> bool
-    requires { ⌜ no-literal 4096 (now literals) ≡ false ⌝ }
+    requires { ⌜ no-literal (widest .atoms) (now literals) ≡ false ⌝ }
     ensures { λ r. ⌜ r ≡ negated (now (literals .entry)) ⌝ }
 {
     let mut met = [0u8; 4097];
@@ -240,7 +254,7 @@ fn both_signs(literals: &[i64]) -> bool
 }
 
 fn mixed(kind: u64, literals: &[i64]) -> bool
-    requires { ⌜ no-literal 4096 (now literals) ≡ false ⌝ }
+    requires { ⌜ no-literal (widest .atoms) (now literals) ≡ false ⌝ }
     ensures { λ r. ⌜ r ≡ (not (mixes (kind-of kind)) && negated (now (literals .entry))) ⌝ }
 {
     if kind == 0 {
@@ -285,7 +299,7 @@ fn sentence_refusal(
     weights: &[i64],
     literals: &[i64],
 ) -> u64
-    requires { ⌜ (n ≤ 4096) × (length (now weights) ≡ length (now literals)) ⌝ }
+    requires { ⌜ (n ≤ widest .atoms) × (length (now weights) ≡ length (now literals)) ⌝ }
     ensures { λ r. ⌜ r ≡ sentence-code lim n (written head kind side bound (now (weights .entry)) (now (literals .entry))) ⌝ }
 {
     if unknown(lim.each, kind, side, literals.len() as u64) {

@@ -1,14 +1,9 @@
 // The five kinds of aggregates. Each owns the word of its value over no weight and its range of weights, as constants.
+use types::Limits;
 ghost use mathlib.Core.Path.{_≡_};
 ghost use Rattle.numbers.specs.Words.{word};
 ghost use Rattle.meaning.specs.Meaning.{sum, product, count, maximum, minimum, empty};
-ghost use Rattle.kinds.specs.Kinds.{least-weight, greatest-weight, between, weight-fits};
-
-fn within(least: i64, greatest: i64, w: i64) -> bool
-    ensures { λ r. ⌜ r ≡ between least greatest w ⌝ }
-{
-    if least <= w { w <= greatest } else { false }
-}
+ghost use Rattle.kinds.specs.Kinds.{least-weight, greatest-weight};
 
 // The value over no weight is 0.
 pub struct Sum;
@@ -16,9 +11,9 @@ pub struct Sum;
 impl Sum {
     pub const EMPTY: u64 = 4_611_686_018_427_387_904;
 
-    pub const LEAST: i64 = -1_000_000_000;
+    pub const LEAST: i64 = -Limits::WEIGHT;
 
-    pub const GREATEST: i64 = 1_000_000_000;
+    pub const GREATEST: i64 = Limits::WEIGHT;
 
     pub fn empty() -> u64
         ensures { λ r. ⌜ r ≡ word (empty sum) ⌝ }
@@ -37,12 +32,6 @@ impl Sum {
     {
         Sum::GREATEST
     }
-
-    pub fn fits(w: i64) -> bool
-        ensures { λ r. ⌜ r ≡ weight-fits sum w ⌝ }
-    {
-        within(Sum::LEAST, Sum::GREATEST, w)
-    }
 }
 
 // The value over no weight is 1.
@@ -53,7 +42,7 @@ impl Product {
 
     pub const LEAST: i64 = 1; // so that a product never falls as literals turn true
 
-    pub const GREATEST: i64 = 1_000_000_000;
+    pub const GREATEST: i64 = Limits::WEIGHT;
 
     pub fn empty() -> u64
         ensures { λ r. ⌜ r ≡ word (empty product) ⌝ }
@@ -71,12 +60,6 @@ impl Product {
         ensures { λ r. ⌜ r ≡ greatest-weight product ⌝ }
     {
         Product::GREATEST
-    }
-
-    pub fn fits(w: i64) -> bool
-        ensures { λ r. ⌜ r ≡ weight-fits product w ⌝ }
-    {
-        within(Product::LEAST, Product::GREATEST, w)
     }
 }
 
@@ -107,12 +90,6 @@ impl Count {
     {
         Count::GREATEST
     }
-
-    pub fn fits(w: i64) -> bool
-        ensures { λ r. ⌜ r ≡ weight-fits count w ⌝ }
-    {
-        within(Count::LEAST, Count::GREATEST, w)
-    }
 }
 
 // The value over no weight is below every number.
@@ -121,9 +98,9 @@ pub struct Max;
 impl Max {
     pub const EMPTY: u64 = 0;
 
-    pub const LEAST: i64 = -1_000_000_000;
+    pub const LEAST: i64 = -Limits::WEIGHT;
 
-    pub const GREATEST: i64 = 1_000_000_000;
+    pub const GREATEST: i64 = Limits::WEIGHT;
 
     pub fn empty() -> u64
         ensures { λ r. ⌜ r ≡ word (empty maximum) ⌝ }
@@ -142,12 +119,6 @@ impl Max {
     {
         Max::GREATEST
     }
-
-    pub fn fits(w: i64) -> bool
-        ensures { λ r. ⌜ r ≡ weight-fits maximum w ⌝ }
-    {
-        within(Max::LEAST, Max::GREATEST, w)
-    }
 }
 
 // The value over no weight is above every number.
@@ -156,9 +127,9 @@ pub struct Min;
 impl Min {
     pub const EMPTY: u64 = 9_223_372_036_854_775_808;
 
-    pub const LEAST: i64 = -1_000_000_000;
+    pub const LEAST: i64 = -Limits::WEIGHT;
 
-    pub const GREATEST: i64 = 1_000_000_000;
+    pub const GREATEST: i64 = Limits::WEIGHT;
 
     pub fn empty() -> u64
         ensures { λ r. ⌜ r ≡ word (empty minimum) ⌝ }
@@ -176,11 +147,5 @@ impl Min {
         ensures { λ r. ⌜ r ≡ greatest-weight minimum ⌝ }
     {
         Min::GREATEST
-    }
-
-    pub fn fits(w: i64) -> bool
-        ensures { λ r. ⌜ r ≡ weight-fits minimum w ⌝ }
-    {
-        within(Min::LEAST, Min::GREATEST, w)
     }
 }

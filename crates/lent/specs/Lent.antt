@@ -29,8 +29,8 @@ literals-in (r ∷ rs) = r .literal ∷ literals-in rs
 -- the records are counted, and where they fit their columns are the fronts of the two arrays
 pub record CopyOf (rs : List Weighted) (r : Copied) : Type 0 where
   pub count-is : r .count ≡ length rs
-  pub weights-are : length rs ≤ 4096 → take (length rs) (r .weights) ≡ weights-in rs
-  pub literals-are : length rs ≤ 4096 → take (length rs) (r .literals) ≡ literals-in rs
+  pub weights-are : length rs ≤ base .entries → take (length rs) (r .weights) ≡ weights-in rs
+  pub literals-are : length rs ≤ base .entries → take (length rs) (r .literals) ≡ literals-in rs
 
 -- ---- the answer of a by-value call, from what is handed back and the counters after the call
 

@@ -8,7 +8,7 @@ ghost use mathlib.Core.Path.{_≡_};
 ghost use Prim.Native.Nat.{_+_, _*_, _≤_};
 ghost use lib.IntN.{natAbs};
 ghost use lib.ListN.{length};
-ghost use Rattle.types.specs.Limits.{base, Fitting};
+ghost use Rattle.types.specs.Limits.{base, bound-limit, Fitting};
 ghost use Rattle.numbers.specs.Words.{bias};
 ghost use Rattle.columns.specs.Columns.{columns, written};
 ghost use Rattle.load.specs.Stored.{MergeAsked, MergedAt, FourPut, Storable, Stored, Cleared, Admitted, AllStored};
@@ -19,7 +19,7 @@ const HALF: u64 = 4_611_686_018_427_387_904;
 // ---- one sentence
 
 fn bound_word(b: i64) -> u64
-    requires { ⌜ natAbs b ≤ 1000000000000000000 ⌝ }
+    requires { ⌜ natAbs b ≤ bound-limit ⌝ }
     ensures { λ r. ⌜ r ≡ bias b ⌝ }
 {
     let size = signed::size(b);

@@ -7,6 +7,8 @@ use lib.IntN.{ℤ, pos}
 use lib.ListN.{length, take}
 use lib.Signed.{leZ}
 use lib.Dec.{T}
+use Rattle.types.specs.declared.Limits.{Limits}
+use Rattle.types.specs.Limits.{bound-limit, widest}
 use Rattle.numbers.specs.Words.{unbias}
 use Rattle.meaning.specs.Meaning.{place, product, mixes, multiplied, Each}
 use Rattle.meaning.specs.Merge.{merge}
@@ -21,12 +23,12 @@ use Rattle.merge.specs.declared.Merged.{Merged}
 pub record Mergeable (part : List ℕ) (kind : ℕ) (ws ls : List ℤ) : Type 0 where
   pub room : length part ≡ 2 * length ws
   pub same : length ls ≡ length ws
-  pub few : length ws ≤ 4096
+  pub few : length ws ≤ widest .each
   pub kind-known : kind ≤ 4
-  pub literals : Each (λ e. (1 ≤ place e) × (place e ≤ 4096)) (paired ws ls)
+  pub literals : Each (λ e. (1 ≤ place e) × (place e ≤ widest .atoms)) (paired ws ls)
   pub weights : Each (λ e. T (weight-fits (kind-of kind) (e .weight))) (paired ws ls)
   pub signs : T (not (mixes (kind-of kind))) → both-signs (paired ws ls) ≡ false
-  pub product : kind ≡ 1 → T (leZ (multiplied (weights-of (paired ws ls))) (pos 1000000000000000000))
+  pub product : kind ≡ 1 → T (leZ (multiplied (weights-of (paired ws ls))) (pos bound-limit))
 
 -- the part holds the merge of the set; a kind without a constant has the word 0 for it
 pub record MergedInto (part : List ℕ) (kind : ℕ) (ws ls : List ℤ) (r : Merged) : Type 0 where

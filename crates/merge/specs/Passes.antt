@@ -8,6 +8,8 @@ use lib.IntN.{ℤ, pos, natAbs, _*ℤ_}
 use lib.ListN.{length, getD, take}
 use lib.Signed.{leZ}
 use lib.Dec.{T}
+use Rattle.types.specs.declared.Limits.{Limits}
+use Rattle.types.specs.Limits.{weight-limit, bound-limit, widest}
 use Rattle.numbers.specs.Words.{unbias, literal-word, literal-of}
 use Rattle.meaning.specs.Meaning.{atom, Entry, Kind, sum, product, count, maximum, minimum, same, members, mixes, multiplied, Each}
 use Rattle.meaning.specs.Merge.{turned-by, freed-by, turned, constant, put, collect, nonzero}
@@ -47,9 +49,9 @@ pub record TurnedIs (kind x l : ℕ) (r : Turned) : Type 0 where
 
 -- two weights whose join fits a word
 abbrev pub Joinable : Kind → ℤ → ℤ → Type 0
-Joinable sum v w = (natAbs v ≤ 4096000000000) × (natAbs w ≤ 1000000000)
-Joinable product v w = T (leZ (pos 1) v) × T (leZ (pos 1) w) × T (leZ (v *ℤ w) (pos 1000000000000000000))
-Joinable count v w = (natAbs v ≤ 4096000000000) × (natAbs w ≤ 1000000000)
+Joinable sum v w = (natAbs v ≤ weight-limit * widest .each) × (natAbs w ≤ weight-limit)
+Joinable product v w = T (leZ (pos 1) v) × T (leZ (pos 1) w) × T (leZ (v *ℤ w) (pos bound-limit))
+Joinable count v w = (natAbs v ≤ weight-limit * widest .each) × (natAbs w ≤ weight-limit)
 Joinable maximum v w = Unit {0}
 Joinable minimum v w = Unit {0}
 
@@ -72,12 +74,12 @@ slot (x ∷ xs) l = cond (same (x .literal) l) 1 (after (slot xs l))
 -- the table has the slot of each literal, at the literal's word
 pub record Places (table : List ℕ) (xs : List Entry) : Type 0 where
   pub size : length table ≡ 8194
-  pub each : (l : ℤ) → atom l ≤ 4096 → getD table (literal-word l) 0 ≡ slot xs l
+  pub each : (l : ℤ) → atom l ≤ widest .atoms → getD table (literal-word l) 0 ≡ slot xs l
 
 -- what putting one entry more asks and leaves
 pub record Puttable (part table : List ℕ) (n kind x l : ℕ) : Type 0 where
   pub room : 2 * n + 1 < length part
-  pub few : n < 4096
+  pub few : n < widest .each
   pub low : 2 ≤ l
   pub high : l ≤ 8193
   pub places : Places table (first-entries part n)
@@ -101,7 +103,7 @@ mentioned l es = some (λ x. same (x .literal) l) es
 -- the table tells of each literal whether it is mentioned, at the literal's word
 pub record Seen (table : List Bool) (es : List Entry) : Type 0 where
   pub size : length table ≡ 8194
-  pub each : (l : ℤ) → atom l ≤ 4096 → getD table (literal-word l) false ≡ mentioned l es
+  pub each : (l : ℤ) → atom l ≤ widest .atoms → getD table (literal-word l) false ≡ mentioned l es
 
 -- a count takes a literal once
 abbrev pub taken : Kind → Bool → Bool
@@ -125,18 +127,18 @@ pub record Gathered (kind : ℕ) (es : List Entry) (part table : List ℕ) (seen
   pub collected : Collected kind es part n c
   pub places : Places table (first-entries part n)
   pub seen-is : Seen seen es
-  pub small : T (mixes (kind-of kind)) → Each (λ e. natAbs (e .weight) ≤ 1000000000 * length es) (first-entries part n)
-  pub near : natAbs (unbias c) ≤ 1000000000 * length es
+  pub small : T (mixes (kind-of kind)) → Each (λ e. natAbs (e .weight) ≤ weight-limit * length es) (first-entries part n)
+  pub near : natAbs (unbias c) ≤ weight-limit * length es
 
 -- an entry, as words, may be taken after es, into a part of so many words
 pub record Takeable (kind : ℕ) (es : List Entry) (x l words : ℕ) : Type 0 where
-  pub few : length es < 4096
+  pub few : length es < widest .each
   pub room : 2 * length es + 1 < words
   pub low : 2 ≤ l
   pub high : l ≤ 8193
   pub fits : T (weight-fits (kind-of kind) (unbias x))
   pub fit : Each (λ e. T (weight-fits (kind-of kind) (e .weight))) es
-  pub product : kind-of kind ≡ product → T (leZ (multiplied (weights-of (es ++ (entry-of x l ∷ [])))) (pos 1000000000000000000))
+  pub product : kind-of kind ≡ product → T (leZ (multiplied (weights-of (es ++ (entry-of x l ∷ [])))) (pos bound-limit))
 
 -- what taking one entry more asks and leaves
 pub record Addable (part table : List ℕ) (seen : List Bool) (kind x l : ℕ) (m : Merged) : Type 0 where

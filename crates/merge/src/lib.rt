@@ -5,6 +5,7 @@ ghost use mathlib.Core.Bool.{true, false};
 ghost use Prim.Native.Nat.{_+_, _*_, _<_, _≤_};
 ghost use lib.IntN.{natAbs};
 ghost use lib.ListN.{length, getD, set};
+ghost use Rattle.types.specs.Limits.{weight-limit, widest};
 ghost use Rattle.numbers.specs.Words.{bias, unbias, literal-word};
 ghost use Rattle.meaning.specs.Meaning.{mixes};
 ghost use Rattle.meaning.specs.Merge.{joined};
@@ -37,7 +38,7 @@ pub struct Turned {
 }
 
 fn weight_word(w: i64) -> u64
-    requires { ⌜ natAbs w ≤ 1000000000 ⌝ }
+    requires { ⌜ natAbs w ≤ weight-limit ⌝ }
     ensures { λ r. ⌜ r ≡ bias w ⌝ }
 {
     let size = signed::size(w);
@@ -48,7 +49,7 @@ fn weight_word(w: i64) -> u64
 }
 
 fn literal_word(l: i64) -> u64
-    requires { ⌜ natAbs l ≤ 4096 ⌝ }
+    requires { ⌜ natAbs l ≤ widest .atoms ⌝ }
     ensures { λ r. ⌜ r ≡ literal-word l ⌝ }
 {
     let size = signed::size(l);
@@ -196,7 +197,7 @@ fn gather(part: &mut [u64], kind: u64, weights: &[i64], literals: &[i64]) -> Mer
 
 // The second pass, in sums and counts: the entries of weight 0 are left out. Says how many there are then.
 fn sift(part: &mut [u64], count: usize) -> usize
-    requires { ⌜ (2 * count ≤ length (now part)) × (count ≤ 4096) ⌝ }
+    requires { ⌜ (2 * count ≤ length (now part)) × (count ≤ widest .each) ⌝ }
     ensures { λ r. ⌜ Sifted (now (part .entry)) (now (part .exit)) count r ⌝ }
 {
     let mut m = 0;

@@ -4,6 +4,8 @@ use mathlib.Core.List.{List, [], _∷_}
 use Prim.Native.Nat.{ℕ, suc, _+_, _*_, _-_, min}
 use lib.ListN.{length, getD}
 use lib.Dec.{eqb, leb, ltb}
+use Rattle.types.specs.declared.Limits.{Limits}
+use Rattle.types.specs.Limits.{base}
 use Rattle.opb_bytes.specs.declared.Phase.{Phase}
 use Rattle.opb_bytes.specs.declared.Phase.the-variants.{Opening, BeforeV, InV, Middle, BeforeC, InC, AfterReturn, LineStart, Between, Comment, WeightSign, InWeight, BeforeX, BeforeVariable, InVariable, AfterTerm, AfterGreater, AfterRelation, BeforeBound, BoundSign, InBound, AfterBound}
 use Rattle.opb_bytes.specs.declared.Number.{Number}
@@ -14,16 +16,16 @@ use Rattle.opb_bytes.specs.declared.Next.{Next}
 use Rattle.opb_bytes.specs.declared.Next.the-variants.{More, Term, Constraint, Fault}
 use Rattle.opb_bytes.specs.Bytes.{line-feed, return, digit-zero, blank, digit, plus, minus, star, x, greater, equal, semicolon, class-of}
 
--- ---- limits of a text
+-- ---- limits of a text: load's, and its bytes
 
 abbrev pub atoms-limit : ℕ
-atoms-limit = 1024
+atoms-limit = base .atoms
 
 abbrev pub sentences-limit : ℕ
-sentences-limit = 256
+sentences-limit = base .sentences
 
 abbrev pub entries-limit : ℕ
-entries-limit = 4096
+entries-limit = base .entries
 
 abbrev pub bytes-limit : ℕ
 bytes-limit = 65536
@@ -51,11 +53,15 @@ counting s p e c = record { phase = p; matched = s .matched; number = s .number;
 
 -- ---- numbers
 
+-- no number of 18 digits or fewer reaches it; a longer one is refused, and is told only up to here
+abbrev pub size-limit : ℕ
+size-limit = 1000000000000000000
+
 abbrev pub signed : Bool → Number
 signed m = record { size = 0; digits = 0; minus = m }
 
 unfoldable pub more : Number → ℕ → Number
-more n b = record { size = min (n .size * 10 + (b - digit-zero)) 1000000000000000000; digits = min (n .digits + 1) 19; minus = n .minus }
+more n b = record { size = min (n .size * 10 + (b - digit-zero)) size-limit; digits = min (n .digits + 1) 19; minus = n .minus }
 
 -- the fault of a number that has ended, the lowest where it has several, 0 for none; it stands at the number's last byte
 unfoldable pub long-fault : State → ℕ

@@ -1,4 +1,5 @@
 // The grammar of OPB texts, as document 01 lays it down: an automaton that goes through a text byte by byte.
+use types::Limits;
 ghost use mathlib.Core.Path.{_≡_};
 ghost use Prim.Native.Nat.{_+_, _*_, _-_, _<_, _≤_, min};
 ghost use lib.ListN.{length};
@@ -366,6 +367,7 @@ pub fn class(b: u8) -> u8
 
 // ---- numbers
 
+// What a number of more than 18 digits is told as.
 const GREATEST: u64 = 1_000_000_000_000_000_000;
 
 // a + b is at most the limit, told with no sum that could wrap.
@@ -391,7 +393,7 @@ fn value(b: u8) -> u64
 // Ten times the size and a digit, told up to 10^18.
 fn grown(size: u64, digit: u64) -> u64
     requires { ⌜ digit < 1000 ⌝ }
-    ensures { λ r. ⌜ r ≡ min (size * 10 + digit) 1000000000000000000 ⌝ }
+    ensures { λ r. ⌜ r ≡ min (size * 10 + digit) grammar.size-limit ⌝ }
 {
     if size >= GREATEST / 10 {
         return GREATEST;
@@ -568,7 +570,7 @@ fn c_fault(s: State) -> u64
 {
     let n = s.number;
     let sizes = s.sizes;
-    if within(sizes.variables, n.size, 1024) {
+    if within(sizes.variables, n.size, Limits::ATOMS) {
         return long_fault(s);
     }
     21
@@ -583,7 +585,7 @@ fn variable_fault(s: State) -> u64
     if sizes.variables < n.size {
         return 21;
     }
-    if counts.entries < 4096 {
+    if counts.entries < Limits::ENTRIES {
         return 0;
     }
     24
@@ -684,7 +686,7 @@ fn between(s: State, b: u8, k: u8) -> Next
 
 // A term is complete.
 fn term(s: State) -> State
-    requires { ⌜ (s .counts .terms ≤ s .counts .entries) × (s .counts .entries < 4096) ⌝ }
+    requires { ⌜ (s .counts .terms ≤ s .counts .entries) × (s .counts .entries < grammar.entries-limit) ⌝ }
     ensures { λ r. ⌜ r ≡ grammar.term s ⌝ }
 {
     let c = s.counts;
@@ -701,7 +703,7 @@ fn relation_at_least(s: State) -> Next
     ensures { λ r. ⌜ r ≡ grammar.relation-at-least s ⌝ }
 {
     let c = s.counts;
-    if c.sentences >= 256 {
+    if c.sentences >= Limits::SENTENCES {
         return Next::Fault(24);
     }
     let counts = Counts {
@@ -712,15 +714,18 @@ fn relation_at_least(s: State) -> Next
     Next::More(counting(s, Phase::AfterRelation, false, counts))
 }
 
+// From so many sentences on there is no room for two more.
+const NO_ROOM_FOR_TWO: u64 = Limits::SENTENCES - 1;
+
 // `=` makes two sentences, with its terms once more.
 fn relation_equal(s: State) -> Next
     ensures { λ r. ⌜ r ≡ grammar.relation-equal s ⌝ }
 {
     let c = s.counts;
-    if c.sentences >= 255 {
+    if c.sentences >= NO_ROOM_FOR_TWO {
         return Next::Fault(24);
     }
-    if !within(c.entries, c.terms, 4096) {
+    if !within(c.entries, c.terms, Limits::ENTRIES) {
         return Next::Fault(24);
     }
     let counts = Counts {

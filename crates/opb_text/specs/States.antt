@@ -9,7 +9,7 @@ use lib.IntN.{ℤ}
 use lib.Dec.{eqb, ltb}
 use Rattle.columns.specs.Columns.{Columns, columns}
 use Rattle.opb_bytes.specs.declared.State.{State}
-use Rattle.opb_bytes.specs.Grammar.{ends}
+use Rattle.opb_bytes.specs.Grammar.{size-limit, ends}
 use Rattle.opb_text.specs.declared.Read.{Read}
 use Rattle.opb_text.specs.Text.{signed-of, reading, nothing-read, read-of, sentence-room, entry-room}
 
@@ -64,4 +64,4 @@ pub record Room (s : State) (c : Columns) : Type 0 where
   pub counts : s .counts .sentences ≤ length (c .counts)
   pub weights : s .counts .entries ≤ length (c .weights)
   pub literals : s .counts .entries ≤ length (c .literals)
-  pub size : s .number .size ≤ 1000000000000000000
+  pub size : s .number .size ≤ size-limit

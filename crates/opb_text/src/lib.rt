@@ -9,6 +9,7 @@ ghost use lib.ListN.{length, set};
 ghost use lib.Seq.{sets, slice};
 ghost use lib.IntN.{pos};
 ghost use Rattle.columns.specs.Columns.{columns};
+ghost use Rattle.opb_bytes.specs.Grammar.{size-limit};
 ghost use Rattle.opb_text.specs.Text.{reading, read-of, result-of, signed-of, nothing-read, Reads};
 ghost use Rattle.opb_text.specs.States.{answer-at, Decided, both, first-row, copied, with-rows, Room};
 
@@ -101,7 +102,7 @@ fn decide(text: &[u8], sentences: u64, entries: u64) -> Read
 // ---- second pass: the columns are filled
 
 fn signed_value(n: Number) -> i64
-    requires { ⌜ n .size ≤ 1000000000000000000 ⌝ }
+    requires { ⌜ n .size ≤ size-limit ⌝ }
     ensures { λ r. ⌜ r ≡ signed-of n ⌝ }
 {
     let size = n.size as i64;
@@ -113,7 +114,7 @@ fn signed_value(n: Number) -> i64
 
 // The term that has just been read, behind the entries before it.
 fn put_term(s: State, weights: &mut [i64], literals: &mut [i64])
-    requires { ⌜ (s .counts .entries < length (now weights)) × (s .counts .entries < length (now literals)) × (s .weight .size ≤ 1000000000000000000) × (s .number .size ≤ 1000000000000000000) ⌝ }
+    requires { ⌜ (s .counts .entries < length (now weights)) × (s .counts .entries < length (now literals)) × (s .weight .size ≤ size-limit) × (s .number .size ≤ size-limit) ⌝ }
     ensures { λ _. ⌜ now (weights .exit) ≡ set (now (weights .entry)) (s .counts .entries) (signed-of (s .weight)) ⌝ }
     ensures { λ _. ⌜ now (literals .exit) ≡ set (now (literals .entry)) (s .counts .entries) (pos (s .number .size)) ⌝ }
 {
@@ -142,7 +143,7 @@ fn put(column: &mut [u64], s: State, x: u64, y: u64)
 
 // Its bound.
 fn put_bound(column: &mut [i64], s: State)
-    requires { ⌜ (cond (s .equal) 2 1 ≤ s .counts .sentences) × (s .counts .sentences ≤ length (now column)) × (s .number .size ≤ 1000000000000000000) ⌝ }
+    requires { ⌜ (cond (s .equal) 2 1 ≤ s .counts .sentences) × (s .counts .sentences ≤ length (now column)) × (s .number .size ≤ size-limit) ⌝ }
     ensures { λ _. ⌜ now (column .exit) ≡ sets (now (column .entry)) (first-row s) (both (s .equal) (signed-of (s .number)) (signed-of (s .number))) ⌝ }
 {
     let counts = s.counts;

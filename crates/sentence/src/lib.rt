@@ -116,9 +116,9 @@ fn second(area: &[u64], up: bool, start: usize, count: usize, n: usize) -> u64
     ensures { λ r. ⌜ r ≡ second-word up (value-at (now (area .entry)) n) (entry-words (now (area .entry)) start count) ⌝ }
 {
     let none = if up {
-        kinds::Max::EMPTY
+        kinds::Max::empty()
     } else {
-        kinds::Min::EMPTY
+        kinds::Min::empty()
     };
     let mut best = none;
     let mut next = none;

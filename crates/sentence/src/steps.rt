@@ -26,11 +26,11 @@ pub fn empty(kind: Kind) -> u64
     ensures { λ r. ⌜ r ≡ empty-word kind ⌝ }
 {
     match kind {
-        Kind::Sum => kinds::Sum::EMPTY,
-        Kind::Product => kinds::Product::EMPTY,
-        Kind::Count => kinds::Count::EMPTY,
-        Kind::Max => kinds::Max::EMPTY,
-        Kind::Min => kinds::Min::EMPTY,
+        Kind::Sum => kinds::Sum::empty(),
+        Kind::Product => kinds::Product::empty(),
+        Kind::Count => kinds::Count::empty(),
+        Kind::Max => kinds::Max::empty(),
+        Kind::Min => kinds::Min::empty(),
     }
 }
 

@@ -8,6 +8,7 @@ use lib.IntN.{ℤ, pos, negsuc, natAbs}
 use lib.Signed.{leZ}
 use lib.Dec.{T, eqb}
 use borrow.Author.Tests.{eqb-true, eqb-false}
+use Rattle.types.specs.Limits.{weight-limit}
 use Rattle.decide.specs.Tells.{Tells}
 use Rattle.numbers.specs.Integers.{positive, negative}
 use Rattle.numbers.specs.Words.{half, unbias, literal-of}
@@ -97,19 +98,11 @@ weight-sum {r} k written e (inr q) t = kind-as 2 (λ m. Tells r (WeightWhole (ki
 pub weight-product : {r : Bool} (k written : ℕ) (e : Entry) → k ≡ 1 → Tells r (Multiplied e) → Tells r (WeightWhole (kind-of k) written e)
 weight-product {r} k written e q t = kind-as 1 (λ m. Tells r (WeightWhole (kind-of m) written e)) q t
 
--- what is left where the tests of the first three kinds fail
-extreme-kind : (k : ℕ) → ¬ (k ≡ 0) → ¬ (k ≡ 1) → ¬ (k ≡ 2) → k ≤ 4 → (k ≡ 3) ⊎ (k ≡ 4)
-extreme-kind k a b d l = ⊎-elim (λ (p : 4 ≤ k). inr (omega arith)) (λ (p : k < 4). inl (omega arith)) (cases k 4)
+pub weight-extreme : {r : Bool} (k written : ℕ) (e : Entry) → (k ≡ 3) ⊎ (k ≡ 4) → Tells r (Near (e .weight) weight-limit) → Tells r (WeightWhole (kind-of k) written e)
+weight-extreme {r} k written e (inl q) t = kind-as 3 (λ m. Tells r (WeightWhole (kind-of m) written e)) q t
+weight-extreme {r} k written e (inr q) t = kind-as 4 (λ m. Tells r (WeightWhole (kind-of m) written e)) q t
 
-pub weight-extreme : {r : Bool} (k written : ℕ) (e : Entry) → ¬ (k ≡ 0) → ¬ (k ≡ 1) → ¬ (k ≡ 2) → k ≤ 4
-    → Tells r (Near (e .weight) 1000000000) → Tells r (WeightWhole (kind-of k) written e)
-weight-extreme {r} k written e a b d l t =
-    ⊎-elim
-    (λ (q : k ≡ 3). kind-as 3 (λ m. Tells r (WeightWhole (kind-of m) written e)) q t)
-    (λ (q : k ≡ 4). kind-as 4 (λ m. Tells r (WeightWhole (kind-of m) written e)) q t)
-    (extreme-kind k a b d l)
-
-pub constant-sum : {r : Bool} (k written x : ℕ) → (k ≡ 0) ⊎ (k ≡ 2) → Tells r (Near (unbias x) (1000000000 * written)) → Tells r (ConstantOk (kind-of k) written x)
+pub constant-sum : {r : Bool} (k written x : ℕ) → (k ≡ 0) ⊎ (k ≡ 2) → Tells r (Near (unbias x) (weight-limit * written)) → Tells r (ConstantOk (kind-of k) written x)
 constant-sum {r} k written x (inl q) t = kind-as 0 (λ m. Tells r (ConstantOk (kind-of m) written x)) q t
 constant-sum {r} k written x (inr q) t = kind-as 2 (λ m. Tells r (ConstantOk (kind-of m) written x)) q t
 

@@ -7,7 +7,7 @@ use Prim.Native.Nat.{ℕ, _+_, _*_, _<_, _≤_, _%_}
 use lib.ListN.{length}
 use lib.Dec.{T}
 use Rattle.types.specs.declared.Limits.{Limits}
-use Rattle.types.specs.Limits.{Fitting}
+use Rattle.types.specs.Limits.{widest, Fitting}
 use Rattle.decide.specs.Tells.{Tells}
 use Rattle.meaning.specs.Meaning.{mixes}
 use Rattle.area.specs.Layout.{word, record-at, tag-at, before-at, written-at, merged-at, entry-at, rule-at, entries-before}
@@ -49,7 +49,7 @@ pub record Checkable (lim : Limits) (w : List ℕ) (n S b : ℕ) (seen : List �
   pub merged : merged-at w b ≤ written-at w b
   pub room : entry-at w n S b + 2 * written-at w b ≤ length w
   pub stamps : Stamps seen old
-  pub stamps-high : old ≤ 1024
+  pub stamps-high : old ≤ widest .sentences
 
 pub record Checked (lim : Limits) (w : List ℕ) (n S b : ℕ) (seen : List ℕ) (old : ℕ) (r : Bool) : Type 0 where
   pub tells : Tells r (SentenceOk lim w n S b)

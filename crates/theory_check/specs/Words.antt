@@ -5,6 +5,8 @@ use mathlib.Core.Bool.{Bool}
 use mathlib.Core.List.{List}
 use Prim.Native.Nat.{ℕ, _+_, _*_, _-_, _<_, _≤_, _%_}
 use lib.ListN.{length, getD}
+use Rattle.types.specs.declared.Limits.{Limits}
+use Rattle.types.specs.Limits.{weight-limit, bound-limit, widest}
 use Rattle.decide.specs.Tells.{Tells}
 use Rattle.decide.specs.Below.{product-below}
 use Rattle.numbers.specs.Words.{half, unbias, literal-of}
@@ -32,9 +34,9 @@ factor w at i = word w (at + 2 * i) - half
 
 -- at most 10^9 for each written entry in a sum or count; the word of the other kinds is unused
 abbrev pub ConstantOk : Kind → ℕ → ℕ → Type 0
-ConstantOk sum written x = Near (unbias x) (1000000000 * written)
+ConstantOk sum written x = Near (unbias x) (weight-limit * written)
 ConstantOk product written x = x ≡ 0
-ConstantOk count written x = Near (unbias x) (1000000000 * written)
+ConstantOk count written x = Near (unbias x) (weight-limit * written)
 ConstantOk maximum written x = x ≡ 0
 ConstantOk minimum written x = x ≡ 0
 
@@ -43,25 +45,25 @@ pub record RecordOk (w : List ℕ) (n b : ℕ) : Type 0 where
   pub head-high : word w b ≤ n
   pub kind : tag-at w b % 8 ≤ 4
   pub tag : tag-at w b < 32
-  pub bound : Near (unbias (word w (b + 2))) 1000000000000000000
+  pub bound : Near (unbias (word w (b + 2))) bound-limit
   pub constant : ConstantOk (kind-of (tag-at w b % 8)) (written-at w b) (word w (b + 3))
 
 -- the merged entries, which start at `at`
 pub record EntriesOk (w : List ℕ) (n b at : ℕ) : Type 0 where
   pub each : (i : ℕ) → i < merged-at w b → EntryWhole n (word w b) (kind-of (tag-at w b % 8)) (written-at w b) (stored-entry w at i)
   pub once : (i j : ℕ) → i < merged-at w b → j < merged-at w b → place (stored-entry w at i) ≡ place (stored-entry w at j) → i ≡ j
-  pub product : tag-at w b % 8 ≡ 1 → product-below (merged-at w b) (factor w at) ≤ 1000000000000000000
+  pub product : tag-at w b % 8 ≡ 1 → product-below (merged-at w b) (factor w at) ≤ bound-limit
 
 -- what the check of the entries asks
 pub record EntriesAsked (w : List ℕ) (n b at : ℕ) (seen : List ℕ) (old : ℕ) : Type 0 where
-  pub atoms : n ≤ 4096
+  pub atoms : n ≤ widest .atoms
   pub own : b + 8 ≤ length w
   pub kind : tag-at w b % 8 ≤ 4
-  pub few : written-at w b ≤ 4096
-  pub merged : merged-at w b ≤ 4096
+  pub few : written-at w b ≤ widest .each
+  pub merged : merged-at w b ≤ widest .each
   pub room : at + 2 * merged-at w b ≤ length w
   pub stamps : Stamps seen old
-  pub stamps-high : old ≤ 1024
+  pub stamps-high : old ≤ widest .sentences
 
 -- and what it tells and leaves
 pub record EntriesTold (w : List ℕ) (n b at : ℕ) (seen : List ℕ) (old : ℕ) (r : Bool) : Type 0 where
@@ -71,15 +73,15 @@ pub record EntriesTold (w : List ℕ) (n b at : ℕ) (seen : List ℕ) (old : �
 -- r is a product with one weight more, or 0 where that passes 10^18; the other kinds have no product
 pub record Grown (kind product weight r : ℕ) : Type 0 where
   pub is : kind ≡ 1 → 1 ≤ r → r ≡ product * (weight - half)
-  pub high : r ≤ 1000000000000000000
-  pub past : r ≡ 0 → (kind ≡ 1) × (1000000000000000000 < product * (weight - half))
+  pub high : r ≤ bound-limit
+  pub past : r ≡ 0 → (kind ≡ 1) × (bound-limit < product * (weight - half))
 
 -- ---- where a reason has its atom
 
 -- what reading the scope of the sentence at b asks
 pub record ScopeAsked (w : List ℕ) (n S b : ℕ) : Type 0 where
-  pub atoms : n ≤ 4096
-  pub sentences : S ≤ 1024
+  pub atoms : n ≤ widest .atoms
+  pub sentences : S ≤ widest .sentences
   pub own : b + 8 ≤ length w
   pub room : entry-at w n S b + 2 * merged-at w b ≤ length w
 

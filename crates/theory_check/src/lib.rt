@@ -1,9 +1,13 @@
 // The check of the stored theory: places, the words of one sentence, and the reasons of the trail.
+use kinds::Max;
+use kinds::Min;
+use kinds::Product;
+use kinds::Sum;
 use types::Limits;
 ghost use mathlib.Core.Path.{_≡_};
 ghost use Prim.Native.Nat.{ℕ, _+_, _*_, _%_, _<_, _≤_};
 ghost use lib.ListN.{length};
-ghost use Rattle.types.specs.Limits.{Fitting};
+ghost use Rattle.types.specs.Limits.{bound-limit, widest, Fitting};
 ghost use Rattle.decide.specs.Tells.{Tells};
 ghost use Rattle.numbers.specs.Words.{half, unbias};
 ghost use Rattle.area.specs.Layout.{word, tag-at, written-at, kind-of};
@@ -14,11 +18,19 @@ ghost use Rattle.theory_check.specs.Words.{entry-of, ConstantOk, RecordO
 // The word of 0.
 const HALF: u64 = 4_611_686_018_427_387_904;
 
-// The largest size of a written weight.
-const WEIGHT: u64 = 1_000_000_000;
-
 // The largest size of a bound, and of a product.
-const BOUND: u64 = 1_000_000_000_000_000_000;
+const BOUND: u64 = Limits::BOUND as u64;
+
+// The most that a written entry of a sum or a count adds to a weight, or to the constant: a count is merged as a sum.
+const ADDEND: u64 = Sum::GREATEST as u64;
+
+// The word of the least weight of a product.
+const LEAST_FACTOR: u64 = HALF + Product::LEAST as u64;
+
+// The largest size of a maximum's weight, and of a minimum's.
+const IN_MAX: u64 = Max::GREATEST as u64;
+
+const IN_MIN: u64 = Min::GREATEST as u64;
 
 // A factor with which no product up to the bound wraps. At most 14 factors of a product up to the bound are larger.
 const SMALL: u64 = 18;
@@ -69,7 +81,7 @@ fn near(x: u64, limit: u64) -> bool
 }
 
 fn added(written: u64, weight: u64, literal: u64) -> bool
-    requires { ⌜ (written ≤ 4096) × (2 ≤ literal) ⌝ }
+    requires { ⌜ (written ≤ widest .each) × (2 ≤ literal) ⌝ }
     ensures { λ r. ⌜ Tells r (Added written (entry-of weight literal)) ⌝ }
 {
     if literal % 2 != 0 {
@@ -78,13 +90,13 @@ fn added(written: u64, weight: u64, literal: u64) -> bool
     if weight == HALF {
         return false;
     }
-    near(weight, WEIGHT * written)
+    near(weight, ADDEND * written)
 }
 
 fn multiplied(weight: u64, literal: u64) -> bool
     ensures { λ r. ⌜ Tells r (Multiplied (entry-of weight literal)) ⌝ }
 {
-    if weight <= HALF {
+    if weight < LEAST_FACTOR {
         return false;
     }
     if weight > HALF + BOUND {
@@ -94,7 +106,7 @@ fn multiplied(weight: u64, literal: u64) -> bool
 }
 
 fn weight_ok(kind: u64, written: u64, weight: u64, literal: u64) -> bool
-    requires { ⌜ (written ≤ 4096) × (2 ≤ literal) × (kind ≤ 4) ⌝ }
+    requires { ⌜ (written ≤ widest .each) × (2 ≤ literal) × (kind ≤ 4) ⌝ }
     ensures { λ r. ⌜ Tells r (WeightWhole (kind-of kind) written (entry-of weight literal)) ⌝ }
 {
     if kind == 0 {
@@ -106,11 +118,14 @@ fn weight_ok(kind: u64, written: u64, weight: u64, literal: u64) -> bool
     if kind == 2 {
         return added(written, weight, literal);
     }
-    near(weight, WEIGHT)
+    if kind == 3 {
+        return near(weight, IN_MAX);
+    }
+    near(weight, IN_MIN)
 }
 
 fn entry_ok(n: u64, head: u64, kind: u64, written: u64, weight: u64, literal: u64) -> bool
-    requires { ⌜ (written ≤ 4096) × (kind ≤ 4) ⌝ }
+    requires { ⌜ (written ≤ widest .each) × (kind ≤ 4) ⌝ }
     ensures { λ r. ⌜ Tells r (EntryWhole n head (kind-of kind) written (entry-of weight literal)) ⌝ }
 {
     if literal < 2 {
@@ -130,7 +145,7 @@ fn entry_ok(n: u64, head: u64, kind: u64, written: u64, weight: u64, literal: u6
 
 // A product with one weight more, and 0 where that passes 10^18; the other kinds have no product.
 fn grown(kind: u64, product: u64, weight: u64) -> u64
-    requires { ⌜ (1 ≤ product) × (product ≤ 1000000000000000000) × (kind ≡ 1 → half < weight) ⌝ }
+    requires { ⌜ (1 ≤ product) × (product ≤ bound-limit) × (kind ≡ 1 → half < weight) ⌝ }
     ensures { λ r. ⌜ Grown kind product weight r ⌝ }
 {
     if kind != 1 {
@@ -205,20 +220,20 @@ fn entries_by_kind(area: &[u64], n: u64, base: usize, at: usize, seen: &mut [u16
 }
 
 fn constant_ok(kind: u64, written: u64, constant: u64) -> bool
-    requires { ⌜ (written ≤ 4096) × (kind ≤ 4) ⌝ }
+    requires { ⌜ (written ≤ widest .each) × (kind ≤ 4) ⌝ }
     ensures { λ r. ⌜ Tells r (ConstantOk (kind-of kind) written constant) ⌝ }
 {
     if kind == 0 {
-        return near(constant, WEIGHT * written);
+        return near(constant, ADDEND * written);
     }
     if kind == 2 {
-        return near(constant, WEIGHT * written);
+        return near(constant, ADDEND * written);
     }
     constant == 0
 }
 
 fn record_ok(area: &[u64], n: u64, base: usize) -> bool
-    requires { ⌜ (base + 8 ≤ length (now area)) × (written-at (now area) base ≤ 4096) ⌝ }
+    requires { ⌜ (base + 8 ≤ length (now area)) × (written-at (now area) base ≤ widest .each) ⌝ }
     ensures { λ r. ⌜ Tells r (RecordOk (now (area .entry)) n base) ⌝ }
 {
     let head = area[base];

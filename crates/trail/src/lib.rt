@@ -5,7 +5,7 @@ use types::Limits;
 ghost use mathlib.Core.Path.{_≡_};
 ghost use Prim.Native.Nat.{ℕ, _<_, _≤_};
 ghost use lib.ListN.{length};
-ghost use Rattle.types.specs.Limits.{Fitting};
+ghost use Rattle.types.specs.Limits.{widest, Fitting};
 ghost use Rattle.numbers.specs.Words.{literal-word};
 ghost use Rattle.meaning.specs.Meaning.{atom};
 ghost use Rattle.book.specs.Table.{give};
@@ -39,7 +39,7 @@ pub fn advance(area: &mut [u64], n: usize, count: usize, len: usize, literal: u6
 
 // The word of a literal of that size.
 fn word_of(literal: i64, size: u64) -> u64
-    requires { ⌜ (size ≡ atom literal) × (size ≤ 4096) ⌝ }
+    requires { ⌜ (size ≡ atom literal) × (size ≤ widest .atoms) ⌝ }
     ensures { λ r. ⌜ r ≡ literal-word literal ⌝ }
 {
     if signed::negative(literal) {

@@ -4,12 +4,14 @@ use mathlib.Core.Path.{_≡_}
 use mathlib.Core.List.{List}
 use Prim.Native.Nat.{ℕ, _+_, _-_, _*_, _/_, _%_, _<_, _≤_}
 use lib.ListN.{length}
+use Rattle.types.specs.declared.Limits.{Limits}
+use Rattle.types.specs.Limits.{widest}
 use Rattle.area.specs.Layout.{value-at, literal-at, mark-at}
 
 -- the words of n atoms stand inside the area, and the trail has room for len rows
 pub record Room (w : List ℕ) (n len : ℕ) : Type 0 where
   pub atoms-low : 1 ≤ n
-  pub atoms-high : n ≤ 4096
+  pub atoms-high : n ≤ widest .atoms
   pub words : 4 * n ≤ length w
   pub few : len ≤ n
 

@@ -2,6 +2,7 @@
 ghost use mathlib.Core.Path.{_≡_};
 ghost use Prim.Native.Nat.{ℕ, _*_, _<_, _≤_};
 ghost use lib.ListN.{length};
+ghost use Rattle.types.specs.Limits.{widest};
 ghost use Rattle.decide.specs.Tells.{Tells};
 ghost use Rattle.area.specs.Layout.{word, rows-from};
 ghost use Rattle.area.specs.Whole.{Rising};
@@ -165,7 +166,7 @@ fn rest_ok(area: &[u64], n: usize, len: usize) -> bool
 }
 
 pub fn trail_ok(area: &[u64], n: usize, len: usize, level: u64) -> bool
-    requires { ⌜ (1 ≤ n) × (n ≤ 4096) × (4 * n ≤ length (now area)) × (len ≤ n) ⌝ }
+    requires { ⌜ (1 ≤ n) × (n ≤ widest .atoms) × (4 * n ≤ length (now area)) × (len ≤ n) ⌝ }
     ensures { λ r. ⌜ Tells r (TrailOk (now (area .entry)) n len level) ⌝ }
 {
     if !front_ok(area, n) {

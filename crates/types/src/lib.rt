@@ -27,15 +27,31 @@ pub struct Limits {
 }
 
 impl Limits {
+    pub const ATOMS: u64 = 1024;
+
+    pub const SENTENCES: u64 = 256;
+
+    pub const ENTRIES: u64 = 4096;
+
+    pub const EACH: u64 = 1024;
+
+    pub const LEVELS: u64 = 1024;
+
+    // the greatest size of a weight
+    pub const WEIGHT: i64 = 1_000_000_000;
+
+    // the greatest size of a bound, and of a product of weights
+    pub const BOUND: i64 = 1_000_000_000_000_000_000;
+
     pub fn base() -> Limits
         ensures { λ r. ⌜ r ≡ base ⌝ }
     {
         Limits {
-            atoms: 1024,
-            sentences: 256,
-            entries: 4096,
-            each: 1024,
-            levels: 1024,
+            atoms: Limits::ATOMS,
+            sentences: Limits::SENTENCES,
+            entries: Limits::ENTRIES,
+            each: Limits::EACH,
+            levels: Limits::LEVELS,
         }
     }
 }

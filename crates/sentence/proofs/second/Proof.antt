@@ -27,8 +27,8 @@ loop-holds c =
     let k = best-kind (a .up) in
     let e : c .if1 .none ≡ empty-word k =
     ⊎-elim
-    (λ x. x .1 ∙ ap (λ u. empty-word (best-kind u)) (sym (x .0 .taken)))
-    (λ x. x .1 ∙ ap (λ u. empty-word (best-kind u)) (sym (x .0 .left)))
+    (λ x. x .2 ∙ x .1 .ensures ∙ ap (λ u. empty-word (best-kind u)) (sym (x .0 .taken)))
+    (λ x. x .2 ∙ x .1 .ensures ∙ ap (λ u. empty-word (best-kind u)) (sym (x .0 .left)))
     (c .if1 .came) in (
       omega arith,
       rw e (seconds-start k (a .up) v area (a .start) (a .count) (empty-word k) (empty-word k)),
@@ -123,6 +123,8 @@ second-spec =
     (tie.spec
     Inv-loop
     μ-loop
+    (λ c κs. search needs)
+    (λ c κs. search needs)
     loop-holds
     mul-at
     add-at

@@ -5,8 +5,8 @@ use lib.Signed.{leZ}
 use mir.Syntax.{w64}
 use mir.Val.{toZ, ofZ}
 use mir.ValLaws.{toZ-ofZ}
-use Rattle.kinds.proofs.within.Statement.{statement}
-use Rattle.kinds.proofs.within.Tie as tie
+use Rattle.columns.proofs.within.Statement.{statement}
+use Rattle.columns.proofs.within.Tie as tie
 
 least : (c : tie.Start) → toZ w64 (ofZ w64 (c .args .least)) ≡ c .args .least
 least c = toZ-ofZ w64 (c .args .least) (c .fits .least)
