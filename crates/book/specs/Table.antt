@@ -234,3 +234,11 @@ decided q (r ∷ rs) o = cond (r .applies) (unchanged q (refused (r .code) (r .v
 
 unfoldable pub reply : State → Call → Outcome
 reply q x = decided q (refusal 9 (q .broken) ∷ refusals q x) (effect q x)
+
+-- the state after an outcome
+abbrev pub following : State → Outcome → State
+following q o = record { broken = q .broken; atoms = q .atoms; levels = q .levels; sentences = q .sentences; level = o .level; rows = o .rows }
+
+-- and after a call
+abbrev pub called : State → Call → State
+called q x = following q (reply q x)

@@ -9,7 +9,8 @@ use lib.ListN.{length, getD}
 use borrow.Author.Tests.{eqb-true, eqb-false, ltb-true, ltb-false}
 use Rattle.types.specs.declared.Limits.{Limits}
 use Rattle.decide.specs.Below.{sum-first}
-use Rattle.columns.specs.Columns.{Columns, written-at}
+use Rattle.meaning.specs.Meaning.{Sentence, Each}
+use Rattle.columns.specs.Columns.{Columns, Written, written-at, written-from, all-written, sentence-of, sentences-in}
 use Rattle.columns.specs.Refusals.{misshapen, need, load-answer}
 use Rattle.columns.specs.Indexed.{sentence-code, Passes}
 use Rattle.columns.specs.declared.Answer.{Answer}
@@ -79,3 +80,15 @@ module _ (lim : Limits) (words n : ℕ) (c : Columns) (z : load-answer lim words
         shape = h;
         entries-within = λ s l. inside lim n c s (sum-first (c .counts) s) h l refl .weights;
       }
+
+-- what every sentence that passes has, all of the columns have
+
+each-from : (P : Sentence → Type 0) (c : Columns) (s k : ℕ) → ((i : ℕ) → i < s + k → P (sentence-of (written-at c i)))
+    → Each P (sentences-in (written-from c s k))
+unfolding written-from sentences-in
+each-from P c s zero h = tt
+each-from P c s (suc k) h = (h s (omega arith), each-from P c (suc s) k (λ i l. h i (omega arith)))
+
+pub each-accepted : (P : Sentence → Type 0) (lim : Limits) (words n : ℕ) (c : Columns) → load-answer lim words n c .code ≡ 0
+    → ((x : Written) → Passes lim n x → P (sentence-of x)) → Each P (sentences-in (all-written c))
+each-accepted P lim words n c z f = each-from P c 0 (length (c .heads)) (λ i l. f (written-at c i) (accepted lim words n c z .passes i (omega arith)))

@@ -2,7 +2,7 @@
 -- book says, since a stored rule keeps how many entries were written.
 use mathlib.Core.Path.{_≡_, refl, sym, ap, _∙_}
 use mathlib.Core.List.{List, [], _∷_}
-use Prim.Native.Nat.{ℕ, zero, suc, _+_, _<_}
+use Prim.Native.Nat.{ℕ, zero, suc, _+_}
 use native.Mathlib.Omega.{arith}
 use lib.ListN.{length}
 use Rattle.types.specs.declared.Limits.{Limits}
@@ -11,23 +11,15 @@ use Rattle.meaning.specs.Merge.{Rule, rule-of}
 use Rattle.book.specs.Book.{rules-of, written, need, WellFormed}
 use Rattle.area.specs.Layout.{atoms-of, sentences-of, record-at, written-at, rule-at, rules-from, theory-of, entries-before, need-of}
 use Rattle.theory_check.proofs.Rules.{rules-length}
-use Rattle.columns.specs.Columns as column
-use Rattle.columns.specs.Columns.{Columns, written-from, all-written, sentence-of, sentences-in}
+use Rattle.columns.specs.Columns.{Columns, all-written, sentences-in}
 use Rattle.columns.specs.Refusals.{load-answer}
-use Rattle.columns.proofs.Accepted.{accepted}
+use Rattle.columns.proofs.Accepted.{each-accepted}
 use Rattle.columns.proofs.Passing.{well-formed}
 
 -- ---- an accepted load
 
-each-from : (P : Sentence → Type 0) (x : Columns) (s k : ℕ) → ((i : ℕ) → i < s + k → P (sentence-of (column.written-at x i)))
-    → Each P (sentences-in (written-from x s k))
-unfolding written-from sentences-in
-each-from P x s zero h = tt
-each-from P x s (suc k) h = (h s (omega arith), each-from P x (suc s) k (λ i l. h i (omega arith)))
-
 pub loaded-well-formed : (lim : Limits) (words n : ℕ) (x : Columns) → load-answer lim words n x .code ≡ 0 → Each (WellFormed n) (sentences-in (all-written x))
-loaded-well-formed lim words n x e =
-    each-from (WellFormed n) x 0 (length (x .heads)) (λ i l. well-formed lim n (column.written-at x i) (accepted lim words n x e .passes i (omega arith)))
+loaded-well-formed lim words n x e = each-accepted (WellFormed n) lim words n x e (well-formed lim n)
 
 -- ---- the need
 

@@ -1,3 +1,4 @@
 pub mod Extended
 pub mod Integers
 pub mod Words
+pub mod Text

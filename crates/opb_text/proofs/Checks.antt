@@ -3,10 +3,10 @@ use mathlib.Core.Path.{_≡_, refl}
 use mathlib.Core.Bool.{true, false}
 use mathlib.Core.List.{List, [], _∷_, _++_, map}
 use Prim.Native.Nat.{ℕ}
-use Prim.Native.Char.{code}
 use Prim.Native.String as text
 use lib.ListN.{replicate}
 use lib.IntN.{ℤ, pos, negℤ}
+use Rattle.numbers.specs.Text.{bytes}
 use Rattle.meaning.specs.Meaning.{Entry}
 use Rattle.opb_bytes.specs.declared.Phase.the-variants.{AfterTerm}
 use Rattle.opb_bytes.specs.declared.State.{State}
@@ -14,11 +14,6 @@ use Rattle.opb_bytes.specs.declared.Next.{Next}
 use Rattle.opb_bytes.specs.declared.Next.the-variants.{More, Term, Constraint as Passed, Fault}
 use Rattle.opb_bytes.specs.Grammar.{sizing, more, long-fault, v-fault, c-fault, variable-fault, expect, begin, between, relation-at-least, relation-equal, finish, place, ends}
 use Rattle.opb_text.specs.Text.{Constraint, Reading, taken, refused, go, reading}
-
--- the bytes of a text whose characters are all of one byte
-abbrev pub bytes : text.String → List ℕ
-bytes text.[] = []
-bytes (text._∷_ c s) = code c ∷ bytes s
 
 -- three variables and one constraint, and then this
 abbrev pub three-one : text.String → List ℕ

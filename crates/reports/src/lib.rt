@@ -73,7 +73,7 @@ fn refusal(code: u64) -> Bounds
 }
 
 // The answer on a whole area: the sentence's stored bounds.
-fn stored_bounds(area: &[u64], lim: Limits, counters: Counters, sentence: Sentence) -> Bounds
+pub fn stored_bounds(area: &[u64], lim: Limits, counters: Counters, sentence: Sentence) -> Bounds
     requires { ⌜ Fitting lim × Whole lim (now area) (counted counters) ⌝ }
     ensures { λ r. ⌜ bounds-paper r ≡ paper (reply (area-state lim (now (area .entry))) (bounds (sentence .0)) .answer) ⌝ }
 {

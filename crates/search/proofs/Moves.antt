@@ -10,7 +10,7 @@ use Rattle.types.specs.declared.Limits.{Limits}
 use Rattle.types.specs.Limits.{Fitting}
 use Rattle.meaning.specs.Merge.{Rule}
 use Rattle.book.specs.Rows.{Row}
-use Rattle.book.specs.Table.{Answer, State, Outcome, unchanged}
+use Rattle.book.specs.Table.{Answer, State, Outcome, unchanged, following}
 use Rattle.book.specs.Book.{Counters, judged-all}
 use Rattle.area.specs.Layout.{atoms-of, length-of, level-of, rows-of, theory-of, need-of}
 use Rattle.area.specs.Whole.{Whole}
@@ -18,7 +18,6 @@ use Rattle.calls.specs.Calls.{area-state, Moved}
 use Rattle.trail_check.proofs.Rows.{rows-length}
 use Rattle.trail_check.proofs.Few.{few-places}
 use Rattle.propagate.proofs.Needs.{need-same}
-use Rattle.search.specs.Search.{following}
 
 module _ (lim : Limits) (w : List ℕ) (c : Counters) (h : Whole lim w c) where
   pub rows-count : length (rows-of w) ≡ c .length-is

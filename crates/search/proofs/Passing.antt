@@ -10,10 +10,10 @@ use lib.IntN.{ℤ, pos}
 use lib.Dec.{leb}
 use borrow.Author.Tests.{le-leb, lt-leb}
 use Rattle.meaning.specs.Meaning.{atom}
-use Rattle.book.specs.Table.{open-level, propagate, refused, still, State, unchanged, no-atom, on-trail, reply}
+use Rattle.book.specs.Table.{open-level, propagate, refused, still, State, unchanged, no-atom, on-trail, reply, following}
 use Rattle.calls.specs.Calls.{is-refusal}
 use Rattle.search.specs.declared.Next.{Next}
-use Rattle.search.specs.Search.{Ended, following, ending, apart, given, try-next}
+use Rattle.search.specs.Search.{Ended, ending, apart, given, try-next}
 use Rattle.search.specs.Turn.{nth, IsOpen, NextIs}
 
 -- a turn: propagate, and what is left after it

@@ -12,7 +12,7 @@ use Rattle.types.specs.declared.Limits.{Limits}
 use Rattle.types.specs.Limits.{Fitting}
 use Rattle.types.specs.declared.Counters as t
 use Rattle.book.specs.Rows.{Row}
-use Rattle.book.specs.Table.{open-level, propagate, Answer, refused, done, still, clash, Paper, paper, State, propagated, Outcome, ended, unchanged, reply}
+use Rattle.book.specs.Table.{open-level, propagate, Answer, refused, done, still, clash, Paper, paper, State, propagated, Outcome, ended, unchanged, reply, following}
 use Rattle.book.specs.Book.{Counters, judged-all}
 use Rattle.area.specs.Layout.{atoms-of, level-of, rows-of, theory-of}
 use Rattle.area.specs.Whole.{Whole}
@@ -22,7 +22,7 @@ use Rattle.propagate.specs.declared.Propagated.the-variants.{Broken, Still, Con
 use Rattle.propagate.specs.Propagate.{plain, propagated-paper, counters-of, Named}
 use Rattle.propagate.proofs.Ending.{run-longer, not-refused}
 use Rattle.search.specs.declared.Searched.{Searched}
-use Rattle.search.specs.Search.{Ended, following, ending, apart, given, try-next, searched, SearchIs}
+use Rattle.search.specs.Search.{Ended, ending, apart, given, try-next, searched, SearchIs}
 use Rattle.search.specs.Turn.{nth, Comes, Tried, EndIs, Ends}
 use Rattle.search.proofs.Passing.{turns, tried, try-open}
 use Rattle.search.proofs.Moves.{rows-count, few-rows, stays, state-after, moved-twice, moved-here}

@@ -7,16 +7,12 @@ use Prim.Native.Nat.{ℕ, _+_}
 use lib.IntN.{ℤ}
 use Rattle.types.specs.declared.Limits.{Limits}
 use Rattle.meaning.specs.Meaning.{atom}
-use Rattle.book.specs.Table.{open-level, propagate, Answer, refused, done, still, clash, between, listed, paper, State, Outcome, unchanged, no-atom, on-trail, reply}
+use Rattle.book.specs.Table.{open-level, propagate, Answer, refused, done, still, clash, between, listed, paper, State, Outcome, unchanged, no-atom, on-trail, reply, following}
 use Rattle.book.specs.Table as table
 use Rattle.book.specs.Book.{Counters}
 use Rattle.area.specs.Whole.{Whole}
 use Rattle.calls.specs.Calls.{area-state, is-refusal, Moved}
 use Rattle.search.specs.declared.Searched.{Searched}
-
--- the state after an outcome
-abbrev pub following : State → Outcome → State
-following q o = record { broken = q .broken; atoms = q .atoms; levels = q .levels; sentences = q .sentences; level = o .level; rows = o .rows }
 
 -- how the loop ends: the last answer, the literals derived over all turns, and the level and rows
 pub record Ended : Type 0 where

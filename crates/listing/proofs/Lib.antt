@@ -1,0 +1,9 @@
+pub mod Loops
+pub mod Parts
+pub mod Moves
+pub mod Reading
+pub mod Loading
+pub mod Lengths
+pub mod Sums
+pub mod Fits
+pub mod Checks

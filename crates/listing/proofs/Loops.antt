@@ -1,0 +1,53 @@
+-- One row or one bound more, behind the first i.
+use mathlib.Core.Path.{_≡_, sym, ap, ap₂, subst, _∙_}
+use mathlib.Core.List.{List, _++_}
+use Prim.Native.Nat.{ℕ, suc, _+_, _/_, _%_}
+use native.Mathlib.Numerals.{add-one}
+use lib.IntN.{ℤ}
+use mir.Syntax.{w64}
+use mir.Val.{toZ, ofZ, SFits}
+use mir.ValLaws.{toZ-ofZ}
+use Rattle.types.specs.Limits.{base}
+use Rattle.types.specs.declared.Limits.{Limits}
+use Rattle.numbers.specs.Words.{literal-of}
+use Rattle.book.specs.Rows.{row}
+use Rattle.book.specs.Table.{State, Paper, bounds, paper, reply}
+use Rattle.area.specs.Layout.{literal-at, mark-at, rows-from}
+use Rattle.calls.specs.Calls.{area-state, bounds-paper}
+use Rattle.calls.specs.declared.Bounds.{Bounds}
+use Rattle.pages.specs.Page.{Writes}
+use Rattle.pages.proofs.Laws.{nothing, then}
+use Rattle.listing.specs.Output.{row-line, bound-line, row-lines, bound-lines}
+
+pub no-rows : (w : List ℕ) (n : ℕ) (page : List ℕ) (at : ℕ) → Writes page at page at (row-lines (rows-from w n 0))
+unfolding row-lines rows-from
+no-rows w n page at = nothing page at
+
+pub no-bounds : (q : State) (page : List ℕ) (at : ℕ) → Writes page at page at (bound-lines q 0)
+unfolding bound-lines
+no-bounds q page at = nothing page at
+
+module _ {page₀ page page′ : List ℕ} {at place r : ℕ} where
+  pub row-more :
+      (w : List ℕ) (n i : ℕ) (z : ℤ) → SFits w64 z → z ≡ literal-of (literal-at w n i) → Writes page₀ at page place (row-lines (rows-from w n i)) →
+      Writes page place page′ r (row-line (row (toZ w64 (ofZ w64 z)) (mark-at w n i % 65536) (mark-at w n i / 65536 % 65536))) →
+      Writes page₀ at page′ r (row-lines (rows-from w n (i + 1)))
+  unfolding row-lines rows-from
+  row-more w n i z f e p q =
+      subst (Writes page₀ at page′ r)
+      (ap (λ (l : ℤ). row-lines (rows-from w n i) ++ row-line (row l (mark-at w n i % 65536) (mark-at w n i / 65536 % 65536))) (toZ-ofZ w64 z f ∙ e)
+      ∙ ap (λ (k : ℕ). row-lines (rows-from w n k)) (sym (add-one i)))
+      (then p q)
+
+  pub bound-more :
+      (w : List ℕ) (k : ℕ) {lim : Limits} (b : Bounds) → lim ≡ base → bounds-paper b ≡ paper (reply (area-state lim w) (bounds (k + 1)) .answer) →
+      Writes page₀ at page place (bound-lines (area-state base w) k) → Writes page place page′ r (bound-line (k + 1) (bounds-paper b)) →
+      Writes page₀ at page′ r (bound-lines (area-state base w) (k + 1))
+  unfolding bound-lines
+  bound-more w k {lim} b l e p q =
+      let s : bounds-paper b ≡ paper (reply (area-state base w) (bounds (suc k)) .answer) =
+      e ∙ ap₂ (λ (x : Limits) (m : ℕ). paper (reply (area-state x w) (bounds m) .answer)) l (add-one k) in
+      subst (Writes page₀ at page′ r)
+      (ap₂ (λ (m : ℕ) (x : Paper). bound-lines (area-state base w) k ++ bound-line m x) (add-one k) s
+      ∙ ap (λ (m : ℕ). bound-lines (area-state base w) m) (sym (add-one k)))
+      (then p q)

@@ -1,0 +1,60 @@
+-- The first k heads are given.
+use borrow.Author.Needs.{needs}
+use native.Mathlib.Omega.{arith}
+use Prim.Native.Nat.{_+_, _≤_, _-_}
+use mir.Syntax.{w64}
+use mir.Val.{toZ}
+use Rattle.opb_text.proofs.Signs.{natural}
+use Rattle.types.specs.Limits.{base}
+use Rattle.load.proofs.Base.{base-fits}
+use Rattle.listing.specs.Steps.{HeadsGiven}
+use Rattle.listing.proofs.Moves.{heads-none, heads-more, heads-all}
+use Rattle.listing.proofs.give_heads.Statement.{statement}
+use Rattle.listing.proofs.give_heads.Tie as tie
+
+abbrev Inv-loop : tie.InvT-loop
+Inv-loop area₀ variables constraints current₀ k₀ area current k = (k ≤ constraints) × HeadsGiven area₀ area variables k current
+
+abbrev μ-loop : tie.MeasureT-loop
+μ-loop area₀ variables constraints current₀ k₀ area current k = constraints - k
+
+loop-holds : tie.Need-loop-holds Inv-loop μ-loop
+loop-holds c = (omega arith, heads-none (c .before .args .area .now) (c .before .args .variables) (c .before .pre .whole))
+
+add-k : tie.Need-add-k Inv-loop μ-loop
+add-k c = omega arith
+
+add-give-whole : tie.Need-add-give-whole Inv-loop μ-loop
+add-give-whole c = let s = c .before .before .before .before in omega (arith, s .pre .few)
+
+give-whole-requires : tie.Need-give-whole-requires Inv-loop μ-loop
+give-whole-requires c κs = (base, record { fitting = base-fits; whole = c .before .before .loop .inv .1 .stands .whole })
+
+loop-less : tie.Need-loop-less Inv-loop μ-loop
+loop-less c = omega arith
+
+loop-again : tie.Need-loop-again Inv-loop μ-loop
+loop-again c = let l = c .before .before .before .before .before .before in let s = l .before .before in
+    (omega arith, heads-more (toZ w64 (s .args .variables + (l .loop .k + 1))) (natural (s .args .variables + (l .loop .k + 1)) (omega (arith, s .pre .few))) (c .before .before .before .before .before .before .loop .inv .1) (c .before .before .before .give-whole .ensures base (record { fitting = base-fits; whole = c .before .before .before .before .before .before .loop .inv .1 .stands .whole })))
+
+same-length : tie.Need-same-length Inv-loop μ-loop
+same-length c = c .before .loop .inv .1 .size
+
+returns : tie.Need-returns Inv-loop μ-loop
+returns c = let i = c .before .loop .inv in heads-all (omega (arith, i .0)) (i .1)
+
+pub give-heads-spec : {M : Type 1} → statement M
+give-heads-spec =
+    tie.close
+    (tie.spec
+    Inv-loop
+    μ-loop
+    loop-holds
+    add-k
+    add-give-whole
+    (λ c. search needs)
+    give-whole-requires
+    loop-less
+    loop-again
+    same-length
+    returns)

@@ -1,0 +1,100 @@
+-- Document 01's section 'The OPB program', from the bytes of standard input to the bytes of standard output. Reading the text is `reading`,
+-- load's answer `load-answer`, and every other answer is the table's (`reply`), for sentences judged by the computed tests.
+use mathlib.Core.Bool.{false, cond}
+use mathlib.Core.List.{List, [], _∷_, _++_}
+use Prim.Native.Nat.{ℕ, zero, suc, _+_, _*_}
+use lib.ListN.{length}
+use lib.IntN.{pos}
+use lib.Dec.{eqb}
+use Rattle.types.specs.Limits.{base}
+use Rattle.numbers.specs.Text.{bytes, decimal, signed-decimal}
+use Rattle.book.specs.Rows.{Row}
+use Rattle.book.specs.Table.{give, propagate, bounds, Answer, refused, done, still, clash, between, listed, Paper, paper, State, reply, called}
+use Rattle.book.specs.Book.{judged-all, rules-of}
+use Rattle.columns.specs.Columns.{Written, sentences-in}
+use Rattle.columns.specs.declared.Answer as load
+use Rattle.columns.specs.Refusals.{load-answer}
+use Rattle.opb_text.specs.Text.{Reading, reading, rows-from, columns-of}
+use Rattle.opb_text.specs.Text as text
+
+-- ---- lines
+
+-- 'Program refusals, printed `refused N k`'; 'load's refusals print with their sentence'
+abbrev pub refused-line : ℕ → ℕ → List ℕ
+refused-line code k = bytes "refused " ++ decimal code ++ bytes " " ++ decimal k ++ bytes "\n"
+
+-- 'Line 1: `still` and the literals derived, or `conflict`, that count and the sentence.'
+abbrev pub still-line : ℕ → List ℕ
+still-line count = bytes "still " ++ decimal count ++ bytes "\n"
+
+abbrev pub conflict-line : ℕ → ℕ → List ℕ
+conflict-line count sentence = bytes "conflict " ++ decimal count ++ bytes " " ++ decimal sentence ++ bytes "\n"
+
+-- propagate on a whole area has no other answer than the last two
+abbrev pub answer-line : Answer → List ℕ
+answer-line (still n) = still-line n
+answer-line (clash k n) = conflict-line n k
+answer-line (refused c n) = refused-line c n
+answer-line done = []
+answer-line (between v w) = []
+answer-line (listed ls) = []
+
+-- '`t`: literal, level, reason (0 given).'
+abbrev pub row-line : Row → List ℕ
+row-line r = bytes "t " ++ signed-decimal (r .literal) ++ bytes " " ++ decimal (r .level) ++ bytes " " ++ decimal (r .reason) ++ bytes "\n"
+
+-- '`b`: sentence, least, greatest. Infinite values can't come from OPB.'
+abbrev pub bound-line : ℕ → Paper → List ℕ
+bound-line sentence p =
+    bytes "b " ++ decimal sentence ++ bytes " " ++ signed-decimal (p .least) ++ bytes " " ++ signed-decimal (p .greatest) ++ bytes "\n"
+
+-- ---- the listing
+
+-- the trail, oldest first; a state has its last row first
+unfoldable pub row-lines : List Row → List ℕ
+row-lines [] = []
+row-lines (r ∷ rs) = row-lines rs ++ row-line r
+
+-- the bounds of sentences 1 to k
+unfoldable pub bound-lines : State → ℕ → List ℕ
+bound-lines q zero = []
+bound-lines q (suc k) = bound-lines q k ++ bound-line (suc k) (paper (reply q (bounds (suc k)) .answer))
+
+abbrev pub state-lines : State → List ℕ
+state-lines q = row-lines (q .rows) ++ bound-lines q (length (q .sentences))
+
+-- propagate's answer, and 'the other lines follow either'
+abbrev pub listing : State → List ℕ
+listing q = answer-line (reply q propagate .answer) ++ state-lines (called q propagate)
+
+-- ---- the program
+
+-- the work area that the program lends: enough for every theory within the limits
+abbrev pub area-words : ℕ
+area-words = 4 * base .atoms + 8 * base .sentences + 2 * base .entries
+
+-- 'Load leaves an empty trail at level 0 and derives nothing.'
+abbrev pub loaded : ℕ → List Written → State
+loaded n xs =
+    record { broken = false; atoms = n; levels = base .levels; sentences = judged-all (rules-of (sentences-in xs)); level = 0; rows = [] }
+
+-- 'Constraint j has head V + j, given at level 0 in order': the first k of them
+unfoldable pub heads-given : State → ℕ → ℕ → State
+heads-given q v zero = q
+heads-given q v (suc k) = called (heads-given q v k) (give (pos (v + suc k)))
+
+-- V variables, C constraints, their sentences, and load's answer
+abbrev pub answered : ℕ → ℕ → List Written → load.Answer → List ℕ
+answered v c xs a = cond (eqb (a .code) 0) (listing (heads-given (loaded (v + c) xs) v c)) (refused-line (a .code) (a .sentence .0))
+
+abbrev pub printed : Reading → List ℕ
+printed (text.refused code k) = refused-line code k
+printed (text.taken v cs) =
+    answered v (length cs) (rows-from (suc v) cs) (load-answer base area-words (v + length cs) (columns-of (rows-from (suc v) cs)))
+
+unfoldable pub output : List ℕ → List ℕ
+output input = printed (reading input)
+
+-- no output is longer (`Fits: output-fits`): a row has at most 14 bytes, a bound 36, and the first line 18
+abbrev pub page-bytes : ℕ
+page-bytes = base .atoms * 14 + base .sentences * 36 + 18

@@ -1,0 +1,51 @@
+-- What the parts of the program ask and leave.
+use mathlib.Core.Path.{_≡_}
+use mathlib.Core.List.{List}
+use Prim.Native.Nat.{ℕ, _+_, _≤_}
+use lib.ListN.{length}
+use Rattle.types.specs.Limits.{base}
+use Rattle.types.specs.declared.Counters.{Counters}
+use Rattle.book.specs.Table.{State}
+use Rattle.area.specs.Whole.{Whole}
+use Rattle.calls.specs.Calls.{area-state, counted}
+use Rattle.propagate.specs.declared.Propagated.{Propagated}
+use Rattle.propagate.specs.declared.Propagated.the-variants.{Broken, Still, Conflict}
+use Rattle.columns.specs.Columns.{Columns, all-written}
+use Rattle.columns.specs.Refusals.{load-answer}
+use Rattle.pages.specs.Page.{Holds, Writes}
+use Rattle.listing.specs.Output.{still-line, conflict-line, refused-line, heads-given, area-words, answered, output}
+
+-- the line of propagate's answer, as the code has it
+abbrev pub propagated-line : Propagated → List ℕ
+propagated-line (Broken c) = refused-line 9 0
+propagated-line (Still n c) = still-line n
+propagated-line (Conflict k n c) = conflict-line n (k .0)
+
+abbrev pub WholeArea : List ℕ → Counters → Type 0
+WholeArea w c = Whole base w (counted c)
+
+-- an area whole at its counters, as a state of the table
+pub record Stands (w : List ℕ) (c : Counters) (q : State) : Type 0 where
+  pub whole : WholeArea w c
+  pub state : area-state base w ≡ q
+
+abbrev pub start : Counters
+start = record { length = 0; level = record { 0 = 0 } }
+
+-- an empty trail, and heads that are atoms of the layout
+pub record HeadsAsked (w : List ℕ) (v c : ℕ) : Type 0 where
+  pub whole : WholeArea w start
+  pub few : v + c ≤ 4096
+
+pub record HeadsGiven (w w′ : List ℕ) (v c : ℕ) (r : Counters) : Type 0 where
+  pub stands : Stands w′ r (heads-given (area-state base w) v c)
+  pub size : length w′ ≡ length w
+
+-- the columns' sentences loaded and answered, on a page from its start
+abbrev pub Answers : List ℕ → List ℕ → ℕ → ℕ → ℕ → Columns → Type 0
+Answers old new r v c xs = Writes old 0 new r (answered v c (all-written xs) (load-answer base area-words (v + c) xs))
+
+-- the promise of the program: the page holds the output, or is too short
+pub record Prints (input old new : List ℕ) (r : ℕ) : Type 0 where
+  pub size : length new ≡ length old
+  pub holds : Holds new r (output input)
