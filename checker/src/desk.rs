@@ -7,7 +7,7 @@ use std::thread;
 use std::time::{Duration, Instant};
 
 use crate::console::{answers, Console, Said, Slip};
-use crate::programs::{Difference, Process, Program};
+use crate::programs::{Difference, Expected, Process, Program};
 use crate::shrink::shorten_while;
 use crate::texts::Text;
 
@@ -105,28 +105,11 @@ impl Program for Desk {
     }
 }
 
-/// A script with what is to be printed for it.
-pub struct Expected {
-    pub script: Text,
-    pub answers: Vec<u8>,
-}
-
 /// What the checker's own console prints for each script, and what it said in all.
 pub fn expected(scripts: Vec<Text>) -> (Vec<Expected>, Said) {
     let mut said = Said::new();
-    let expected = scripts.into_iter().map(|script| Expected { answers: answers(&script.bytes, Slip::None, &mut said), script }).collect();
+    let expected = scripts.into_iter().map(|text| Expected { printed: answers(&text.bytes, Slip::None, &mut said), text }).collect();
     (expected, said)
-}
-
-/// The first script on which the program differs.
-pub fn compare(program: &dyn Program, scripts: &[Expected]) -> Option<Difference> {
-    for (turn, Expected { script, answers }) in scripts.iter().enumerate() {
-        let printed = program.print(&script.bytes, turn);
-        if printed.as_ref() != Ok(answers) {
-            return Some(Difference { name: script.name.clone(), text: script.bytes.clone(), printed });
-        }
-    }
-    None
 }
 
 /// What is to be printed for a script.

@@ -14,7 +14,7 @@ use checker::generate;
 use checker::library::Library;
 use checker::misread::{self, Misread};
 use checker::planted;
-use checker::programs::{compare, describe, describe_with, shorter, Outcomes, Process};
+use checker::programs::{compare, describe, describe_with, expected, shorter, Process};
 use checker::scripts;
 use checker::selftest;
 use checker::shrink;
@@ -130,8 +130,9 @@ fn run_opb(command: &[String]) -> Result<(), String> {
     let mut texts = instances(&folder().ok_or("opb: no folder tests/opb here or above")?)?;
     let from_files = texts.len();
     texts.extend(texts::texts(TEXT_SEED, TEXTS));
-    let mut outcomes = Outcomes::new();
-    if let Some(difference) = compare(&program, &texts, &mut outcomes) {
+    let (texts, outcomes, reach) = expected(texts);
+    let reached = reach.said().map_err(|what| format!("opb: {what}"))?;
+    if let Some(difference) = compare(&program, &texts) {
         let found = shorter(&program, TIME, difference, &texts);
         return Err(format!("opb: difference, seed {TEXT_SEED}: {}", describe(&found)));
     }
@@ -147,6 +148,7 @@ fn run_opb(command: &[String]) -> Result<(), String> {
         texts.len() - from_files,
         texts.len() as f64 / seconds
     );
+    println!("opb: {reached}");
     Ok(())
 }
 
@@ -155,7 +157,7 @@ fn run_console(command: &[String]) -> Result<(), String> {
     let program = Desk::new(command.to_vec(), PATIENCE);
     let (scripts, said) = desk::expected(scripts::scripts(SCRIPTS));
     everything_said(&said)?;
-    if let Some(difference) = desk::compare(&program, &scripts) {
+    if let Some(difference) = compare(&program, &scripts) {
         let found = desk::shorter(&program, TIME, difference);
         return Err(format!("console: difference, {}", describe_with(&found, &desk::right(&found.text))));
     }

@@ -31,9 +31,25 @@ pub enum Misread {
     CountsGiven,
     /// A missing blank between terms is overlooked.
     TermsTogether,
+    /// The rows are put on a page of 8,192 bytes, which cuts them.
+    Page,
+    /// The listing ends at 16,384 bytes.
+    ListingCut,
+    /// The literals derived are counted modulo 613.
+    CountModulo,
+    /// The literals derived before a conflict are counted up to 999.
+    ConflictCount,
+    /// The row behind the 512th is lost.
+    RowLost,
+    /// The 1,024th row is lost.
+    LastRowLost,
+    /// Bounds have up to 12 digits.
+    TwelveDigits,
+    /// 256 sentences with 4,096 entries are too many together.
+    TooManyTogether,
 }
 
-pub const MISREADS: [Misread; 12] = [
+pub const MISREADS: [Misread; 20] = [
     Misread::CrLfRefused,
     Misread::StarBehindBlanks,
     Misread::NineteenDigits,
@@ -46,6 +62,14 @@ pub const MISREADS: [Misread; 12] = [
     Misread::SentencesTooFew,
     Misread::CountsGiven,
     Misread::TermsTogether,
+    Misread::Page,
+    Misread::ListingCut,
+    Misread::CountModulo,
+    Misread::ConflictCount,
+    Misread::RowLost,
+    Misread::LastRowLost,
+    Misread::TwelveDigits,
+    Misread::TooManyTogether,
 ];
 
 /// Within this process.
@@ -88,9 +112,47 @@ pub fn print(text: &[u8], fault: Misread) -> Vec<u8> {
             out = format!("still {}{rest}", rest.lines().filter(|line| line.starts_with('t')).count());
         }
         (Misread::BytesTooFew, _) if text.len() == 65_536 => out = "refused 23 0\n".into(),
+        (Misread::ListingCut, _) => out.truncate(16_384),
+        (Misread::TooManyTogether, Ok(plan)) if plan.sentences.len() == 256 => {
+            if plan.sentences.iter().map(|sentence| sentence.entries.len()).sum::<usize>() == 4096 {
+                out = format!("refused 24 {}\n", plan.constraints - 1);
+            }
+        }
+        (_, Ok(_)) => out = mislisted(&out, fault),
         _ => (),
     }
     out.into_bytes()
+}
+
+/// The listing with the fault in its lines.
+fn mislisted(listing: &str, fault: Misread) -> String {
+    let (mut out, mut rows) = (String::new(), 0);
+    let mut page = 8192;
+    for line in listing.split_inclusive('\n') {
+        let mut words: Vec<String> = line.trim_end().split(' ').map(String::from).collect();
+        rows += (words[0] == "t") as usize;
+        match (fault, words[0].as_str()) {
+            (Misread::Page, "t") => {
+                let kept = page.min(line.len());
+                page -= kept;
+                out += &line[..kept];
+                continue;
+            }
+            (Misread::RowLost, "t") if rows == 513 => continue,
+            (Misread::LastRowLost, "t") if rows == 1024 => continue,
+            (Misread::CountModulo, "still" | "conflict") => words[1] = (words[1].parse::<u64>().unwrap() % 613).to_string(),
+            (Misread::ConflictCount, "conflict") => words[1] = words[1].parse::<u64>().unwrap().min(999).to_string(),
+            (Misread::TwelveDigits, "b") => {
+                for bound in &mut words[2..] {
+                    *bound = (bound.parse::<i64>().unwrap() % 1_000_000_000_000).to_string();
+                }
+            }
+            _ => (),
+        }
+        out += &words.join(" ");
+        out += "\n";
+    }
+    out
 }
 
 /// The text that the faulty program takes the text for.

@@ -8,7 +8,7 @@ use crate::desk;
 use crate::drive;
 use crate::generate;
 use crate::misread::{Own, MISREADS};
-use crate::programs::{compare, describe, describe_with, shorter, Outcomes, Program};
+use crate::programs::{compare, describe, describe_with, expected, shorter, Expected, Program};
 use crate::scripts;
 use crate::shrink;
 use crate::standin::{Fault, Odd, Standin};
@@ -95,10 +95,10 @@ pub fn run(lists: u64, texts: usize, scripts: usize, loud: bool) -> Result<Vec<S
     for fault in FAULTS.into_iter().chain(rules).chain(ODD.map(Fault::Strict)) {
         said.push(find(fault, lists, loud)?);
     }
-    let texts = texts::texts(1, texts);
+    let (texts, ..) = expected(texts::texts(1, texts));
     for misread in MISREADS {
         let program = Own(misread);
-        let difference = compare(&program, &texts, &mut Outcomes::new()).ok_or(format!("{misread:?} was not found"))?;
+        let difference = compare(&program, &texts).ok_or(format!("{misread:?} was not found"))?;
         let found = shorter(&program, TIME, difference, &texts);
         said.push(format!("{misread:?}: found, {} bytes left of {}", found.text.len(), found.name));
         if loud {
@@ -116,8 +116,8 @@ pub fn run(lists: u64, texts: usize, scripts: usize, loud: bool) -> Result<Vec<S
     Ok(said)
 }
 
-fn find_slip(program: &dyn Program, slip: Slip, scripts: &[desk::Expected], loud: bool) -> Result<String, String> {
-    let difference = desk::compare(program, scripts).ok_or(format!("{slip:?} was not found"))?;
+fn find_slip(program: &dyn Program, slip: Slip, scripts: &[Expected], loud: bool) -> Result<String, String> {
+    let difference = compare(program, scripts).ok_or(format!("{slip:?} was not found"))?;
     let found = desk::shorter(program, TIME, difference);
     let lines = console::lines(&found.text).count();
     let rest = if loud { format!("\n{}", describe_with(&found, &desk::right(&found.text))) } else { String::new() };

@@ -10,6 +10,9 @@ use std::thread;
 use std::time::{Duration, Instant};
 
 use crate::listing;
+use crate::meaning::MOST_ENTRIES;
+use crate::opb::{read, Plan};
+use crate::reach::{self, Reach};
 use crate::shrink::shorten;
 use crate::texts::Text;
 
@@ -113,13 +116,53 @@ fn outcome(output: &str) -> String {
     }
 }
 
+/// A text or script with what is to be printed for it.
+pub struct Expected {
+    pub text: Text,
+    pub printed: Vec<u8>,
+}
+
+/// What the checker's own OPB program prints for each text, how often each outcome came, and how far the texts reach.
+pub fn expected(texts: Vec<Text>) -> (Vec<Expected>, Outcomes, Reach) {
+    let (mut outcomes, mut reach) = (Outcomes::new(), Reach::new(reach::OPB));
+    let expect = |text: Text| {
+        let printed = listing::program(&text.bytes);
+        *outcomes.entry(outcome(&printed)).or_default() += 1;
+        if let (Ok(plan), false) = (read(&text.bytes), printed.starts_with("refused")) {
+            measure(&text.bytes, &plan, &printed, &mut reach);
+        }
+        Expected { text, printed: printed.into_bytes() }
+    };
+    (texts.into_iter().map(expect).collect(), outcomes, reach)
+}
+
+/// What a text reaches that is not refused.
+fn measure(text: &[u8], plan: &Plan, printed: &str, reach: &mut Reach) {
+    let first: Vec<&str> = printed.lines().next().unwrap_or("").split(' ').collect();
+    let derived = first[1].parse().expect("a count stands behind the outcome");
+    reach.meet("literals derived", derived);
+    if first[0] == "conflict" {
+        reach.meet("literals derived before a conflict", derived);
+    }
+    let entries = plan.sentences.iter().map(|sentence| sentence.entries.len() as u64).sum();
+    let bounds = printed.lines().filter_map(|line| line.strip_prefix("b ")).flat_map(|line| line.split(' ').skip(1));
+    let digits = bounds.map(|bound| bound.trim_start_matches('-').len()).max().unwrap_or(0);
+    reach.meet("rows", printed.lines().filter(|line| line.starts_with("t ")).count() as u64);
+    reach.meet("bytes printed", printed.len() as u64);
+    reach.meet("bytes of text", text.len() as u64);
+    reach.meet("sentences", plan.sentences.len() as u64);
+    reach.meet("entries", entries);
+    if entries == MOST_ENTRIES {
+        reach.meet("sentences beside 4,096 entries", plan.sentences.len() as u64);
+    }
+    reach.meet("digits of a bound", digits as u64);
+}
+
 /// The first text on which the program differs.
-pub fn compare(program: &dyn Program, texts: &[Text], outcomes: &mut Outcomes) -> Option<Difference> {
-    for (turn, text) in texts.iter().enumerate() {
-        let expected = listing::program(&text.bytes);
-        *outcomes.entry(outcome(&expected)).or_default() += 1;
+pub fn compare(program: &dyn Program, texts: &[Expected]) -> Option<Difference> {
+    for (turn, Expected { text, printed: expected }) in texts.iter().enumerate() {
         let printed = program.print(&text.bytes, turn);
-        if printed.as_deref() != Ok(expected.as_bytes()) {
+        if printed.as_ref() != Ok(expected) {
             return Some(Difference { name: text.name.clone(), text: text.bytes.clone(), printed });
         }
     }
@@ -128,13 +171,14 @@ pub fn compare(program: &dyn Program, texts: &[Text], outcomes: &mut Outcomes) -
 
 /// The shortest text that is found in the time, by leaving out, on which the program still differs: constraints first, with the number
 /// in the first line made to fit, and then bytes. Where the text is long, a short one of the others comes first if it differs too.
-pub fn shorter(program: &dyn Program, time: Duration, difference: Difference, others: &[Text]) -> Difference {
+pub fn shorter(program: &dyn Program, time: Duration, difference: Difference, others: &[Expected]) -> Difference {
     let start = Instant::now();
     let differs =
         |text: &[u8], turn: usize| start.elapsed() < time && program.print(text, turn).as_deref() != Ok(listing::program(text).as_bytes());
     let mut best = difference;
     if best.text.len() > 200 {
-        let short = others.iter().filter(|text| text.bytes.len() <= 200).take_while(|_| start.elapsed() < time / 3);
+        let short = others.iter().map(|other| &other.text).filter(|text| text.bytes.len() <= 200);
+        let short = short.take_while(|_| start.elapsed() < time / 3);
         if let Some(text) = short.into_iter().find(|text| differs(&text.bytes, 0)) {
             best = Difference { name: text.name.clone(), text: text.bytes.clone(), printed: best.printed };
         }

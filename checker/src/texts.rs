@@ -1,5 +1,6 @@
 //! OPB texts: valid ones in many forms, texts at every limit, and damaged ones.
 
+use crate::largest;
 use crate::random::Random;
 
 /// Document 01's input.
@@ -26,17 +27,16 @@ fn text(name: &str, bytes: impl Into<Vec<u8>>) -> Text {
     Text { name: name.to_string(), bytes: bytes.into() }
 }
 
-/// The generated texts, at least so many.
+/// The generated texts, at least so many; the largest come last.
 pub fn texts(seed: u64, many: usize) -> Vec<Text> {
     let mut all = Vec::new();
     for (i, base) in DAMAGED.iter().enumerate() {
         damage(i, base.as_bytes(), &mut all);
     }
     limits(&mut all);
-    let mut random = Random::new(seed);
+    let random = &mut Random::new(seed);
     let mut i = 0;
     while all.len() < many {
-        let random = &mut random;
         let bytes = match i % 20 {
             0..=7 => valid(random, 9, 6, 5),
             8 | 9 => valid(random, 3, 3, 8),
@@ -56,6 +56,7 @@ pub fn texts(seed: u64, many: usize) -> Vec<Text> {
         all.push(text(&format!("random text {i}"), bytes));
         i += 1;
     }
+    all.extend(largest::texts(random));
     all
 }
 
@@ -76,7 +77,7 @@ fn damage(which: usize, base: &[u8], all: &mut Vec<Text>) {
     all.push(text(&format!("text {which} as it is"), base));
 }
 
-fn first_line(v: u64, c: u64) -> String {
+pub fn first_line(v: u64, c: u64) -> String {
     format!("* #variable= {v} #constraint= {c}\n")
 }
 

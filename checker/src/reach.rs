@@ -1,0 +1,49 @@
+//! How far the texts, scripts and lists of calls reach: the largest of each measure, and the floors below which a run fails. The floors
+//! stand here and nowhere else.
+
+use std::collections::BTreeMap;
+
+/// Each measure with the least that its largest must be.
+pub type Floors = &'static [(&'static str, u64)];
+
+/// Over the texts that are not refused.
+pub const OPB: Floors = &[
+    ("literals derived", 1_023),
+    ("literals derived before a conflict", 1_022),
+    ("rows", 1_024),
+    ("bytes printed", 20_000),
+    ("bytes of text", 65_536),
+    ("sentences", 256),
+    ("entries", 4_096),
+    ("sentences beside 4,096 entries", 256),
+    ("digits of a bound", 13),
+];
+
+pub struct Reach {
+    floors: Floors,
+    largest: BTreeMap<&'static str, u64>,
+}
+
+impl Reach {
+    pub fn new(floors: Floors) -> Reach {
+        Reach { floors, largest: BTreeMap::new() }
+    }
+
+    pub fn meet(&mut self, measure: &'static str, value: u64) {
+        let largest = self.largest.entry(measure).or_default();
+        *largest = value.max(*largest);
+    }
+
+    /// The largest of each measure, or the first that is below its floor.
+    pub fn said(&self) -> Result<String, String> {
+        let mut said = Vec::new();
+        for (measure, floor) in self.floors {
+            let largest = self.largest.get(measure).copied().unwrap_or(0);
+            if largest < *floor {
+                return Err(format!("only {largest} {measure}, which is below {floor}"));
+            }
+            said.push(format!("{largest} {measure}"));
+        }
+        Ok(format!("the largest: {}", said.join(", ")))
+    }
+}
