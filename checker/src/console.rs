@@ -7,6 +7,7 @@ use std::fmt::Write;
 use crate::book::{load, Book, Columns, Reply, Request};
 use crate::meaning::*;
 use crate::programs::Program;
+use crate::reach::{self, Reach};
 
 /// 'a line of more than 65,536 bytes answers `error LINE-NUMBER` and is passed over'
 pub const LONGEST: usize = 65_536;
@@ -78,6 +79,18 @@ pub enum Slip {
     TrailOfWords,
     /// An empty list has a blank behind its word.
     BlankBehind,
+    /// Explanations end at 1,000 literals.
+    ExplanationCut,
+    /// Explanations of conflicts end at 1,000 literals.
+    ConflictCut,
+    /// Origins end at 1,000 literals.
+    OriginCut,
+    /// The trail's row behind the 512th is lost.
+    RowLost,
+    /// An answer ends at 8,192 bytes.
+    AnswerCut,
+    /// The literals derived are counted modulo 613.
+    CountModulo,
     /// Reading ends after so many lines.
     Outlasted,
     /// Nothing is written before the end: for a console that is typed to.
@@ -85,7 +98,7 @@ pub enum Slip {
 }
 
 /// Every slip that shows in what is printed.
-pub const SLIPS: [Slip; 33] = [
+pub const SLIPS: [Slip; 39] = [
     Slip::EmptyBetweenRules,
     Slip::CarriesOut,
     Slip::GoesOnWithRules,
@@ -118,11 +131,43 @@ pub const SLIPS: [Slip; 33] = [
     Slip::InfiniteIsZero,
     Slip::TrailOfWords,
     Slip::BlankBehind,
+    Slip::ExplanationCut,
+    Slip::ConflictCut,
+    Slip::OriginCut,
+    Slip::RowLost,
+    Slip::AnswerCut,
+    Slip::CountModulo,
     Slip::Outlasted,
 ];
 
-/// How often each command had each code, and each error came.
-pub type Said = BTreeMap<(&'static str, u64), u64>;
+/// How often each command had each code and each error came, and how far the answers reach.
+pub struct Said {
+    pub codes: BTreeMap<(&'static str, u64), u64>,
+    pub reach: Reach,
+}
+
+impl Said {
+    pub fn new() -> Said {
+        Said { codes: BTreeMap::new(), reach: Reach::new(reach::CONSOLE) }
+    }
+
+    fn count(&mut self, name: &'static str, code: u64) {
+        *self.codes.entry((name, code)).or_default() += 1;
+    }
+
+    fn add(&mut self, other: &Said) {
+        for (key, many) in &other.codes {
+            *self.codes.entry(*key).or_default() += many;
+        }
+        self.reach.add(&other.reach);
+    }
+}
+
+impl Default for Said {
+    fn default() -> Said {
+        Said::new()
+    }
+}
 
 /// A plan whose rules are awaited.
 struct Plan {
@@ -174,6 +219,7 @@ impl Console {
         if too_long && self.slip != Slip::CutsLongLines && !(comment && self.slip == Slip::LongCommentPassed) {
             return if self.plan.is_some() { self.broken("rules broken off by a line too long") } else { self.error("a line too long") };
         }
+        self.said.reach.meet("bytes of a line", line.len() as u64);
         if comment && !(self.plan.is_some() && self.slip == Slip::CommentBreaksOff) {
             self.lines -= (self.slip == Slip::CommentsNotCounted) as u64;
             return String::new();
@@ -236,12 +282,8 @@ impl Console {
         words.take_while(|word| self.slip != Slip::HashInside || Some(*word) == first || word[0] != b'#').collect()
     }
 
-    fn count(&mut self, name: &'static str, code: u64) {
-        *self.said.entry((name, code)).or_default() += 1;
-    }
-
     fn error(&mut self, what: &'static str) -> String {
-        self.count(what, 0);
+        self.said.count(what, 0);
         format!("error {}\n", self.lines)
     }
 
@@ -286,16 +328,21 @@ impl Console {
             }
         }
         let columns = Columns::of(&plan.sentences);
+        let (rules, entries) = (columns.heads.len() as u64, columns.weights.len() as u64);
         let (reply, book) = match self.slip {
             Slip::CountsBroken if columns.weights.len() + self.broken > MOST_ENTRIES as usize => (Reply::refused(1, 0), None),
             _ => load(plan.atoms, &columns, usize::MAX, 2),
         };
+        if book.is_some() {
+            self.said.reach.meet("rules", rules);
+            self.said.reach.meet("entries", entries);
+        }
         self.planned(reply, book)
     }
 
     /// '`plan` again starts a new plan; a refused plan leaves the old one'
     fn planned(&mut self, reply: Reply, mut book: Option<Book>) -> String {
-        self.count("plan", reply.code);
+        self.said.count("plan", reply.code);
         if let (Slip::KeepsLevel, Some(new), Some(old)) = (self.slip, &mut book, &self.book) {
             new.level = old.level;
         }
@@ -312,6 +359,7 @@ impl Console {
             Some(book) => book.request(request, usize::MAX),
             None => Reply::refused(9, 0),
         };
+        let reply = self.cut(request, reply);
         let (name, word) = match request {
             Request::Give(_) => ("give", "give"),
             Request::Open => ("open", "open"),
@@ -323,12 +371,54 @@ impl Console {
             Request::Origin(_) => ("origin", "origin"),
             Request::Trail => ("trail", "trail"),
         };
-        self.count(name, reply.code);
+        self.said.count(name, reply.code);
+        self.measure(request, &reply);
+        let mut answer = self.worded(request, word, &reply);
+        self.said.reach.meet("bytes of an answer", answer.len() as u64);
+        if self.slip == Slip::AnswerCut {
+            answer.truncate(8192);
+        }
+        answer
+    }
+
+    fn measure(&mut self, request: Request, reply: &Reply) {
+        if reply.code > 0 {
+            return;
+        }
+        let (measure, value) = match request {
+            Request::Open => ("levels", reply.words[1] as u64),
+            Request::Propagate => ("literals derived", reply.words[2] as u64),
+            Request::Explain(_) => ("literals of an explanation", reply.value),
+            Request::ExplainConflict(_) => ("literals of a conflict's explanation", reply.value),
+            Request::Origin(_) => ("literals of an origin", reply.value),
+            Request::Trail => ("rows of a trail", reply.value / 3),
+            _ => return,
+        };
+        self.said.reach.meet(measure, value);
+    }
+
+    /// The reply with the slip in what it lists.
+    fn cut(&self, request: Request, mut reply: Reply) -> Reply {
+        match (self.slip, request) {
+            (Slip::ExplanationCut, Request::Explain(_))
+            | (Slip::ConflictCut, Request::ExplainConflict(_))
+            | (Slip::OriginCut, Request::Origin(_)) => reply.words.truncate(1000),
+            (Slip::RowLost, Request::Trail) if reply.words.len() > 3 * 512 => {
+                reply.words.drain(3 * 512..3 * 513);
+            }
+            (Slip::CountModulo, Request::Propagate) if reply.code == 0 => reply.words[2] %= 613,
+            _ => (),
+        }
+        reply
+    }
+
+    /// The answer's line or lines.
+    fn worded(&mut self, request: Request, word: &str, reply: &Reply) -> String {
         match request {
             Request::Give(_) | Request::Open | Request::TakeBack(_) => format!("{word} {} {}\n", reply.code, reply.value),
             _ if reply.code > 0 => format!("refused {} {}\n", reply.code, reply.value),
             Request::Propagate if reply.value > 0 => {
-                self.count("propagate to a conflict", 0);
+                self.said.count("propagate to a conflict", 0);
                 format!("conflict {} {}\n", reply.words[2], reply.value)
             }
             Request::Propagate => format!("still {}\n", reply.words[2]),
@@ -463,9 +553,7 @@ pub fn answers(script: &[u8], slip: Slip, said: &mut Said) -> Vec<u8> {
         out += &console.line(line);
     }
     out += &console.end();
-    for (key, many) in console.said {
-        *said.entry(key).or_default() += many;
-    }
+    said.add(&console.said);
     out.into_bytes()
 }
 

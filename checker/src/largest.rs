@@ -63,6 +63,13 @@ pub fn texts(random: &mut Random) -> Vec<Text> {
             push(format!("1,024 times {weight}, {right}"), format!("{}{set} {right} ;\n", first_line(1023, 1)).into_bytes());
         }
     }
+    for shape in shapes(random) {
+        push(format!("largest text of {shape:?}"), text(random, shape));
+    }
+    all
+}
+
+fn shapes(random: &mut Random) -> Vec<Shape> {
     let most = Shape {
         constraints: 256,
         equal: 0,
@@ -102,10 +109,7 @@ pub fn texts(random: &mut Random) -> Vec<Text> {
             bytes: random.pick(&[0, 0, 20_000, MOST_BYTES - 1, MOST_BYTES]),
         });
     }
-    for shape in shapes {
-        push(format!("{shape:?}"), text(random, shape));
-    }
-    all
+    shapes
 }
 
 fn text(random: &mut Random, shape: Shape) -> Vec<u8> {
@@ -140,24 +144,23 @@ fn constraints(random: &mut Random, shape: Shape) -> Vec<Constraint> {
     let v = (MOST_ATOMS - shape.constraints) as usize;
     let mut variables: Vec<usize> = (1..=v).collect();
     match random.below(3) {
+        _ if shape.weights == Weights::Wide => (),
         0 => variables.reverse(),
         1 => (1..v).rev().for_each(|i| variables.swap(i, random.index(i + 1))),
         _ => (),
     }
     // A conflict's constraint has no part.
     let parts = if shape.end == End::Conflict && shape.constraints > 1 { shape.constraints - 1 } else { shape.constraints };
+    let copies = |i: u64| if i < shape.equal { 2 } else { 1 };
+    let size = |i: u64| if i < parts { (v as u64 + i) / parts } else { 0 };
+    let mut left = shape.entries.saturating_sub((0..parts).map(|i| copies(i) * size(i)).sum());
     let mut making = Making { random, shape, truth: vec![false; v + 1], known: Vec::new() };
-    let mut left = shape.entries;
     let mut all = Vec::new();
     for i in 0..shape.constraints {
-        let many = if i < parts { (variables.len() as u64).div_ceil(parts - i) as usize } else { 0 };
-        let own: Vec<usize> = variables.drain(..many).collect();
-        let copies = 1 + (i < shape.equal) as u64;
-        left = left.saturating_sub(copies * many as u64);
-        // An even share of the entries that the variables still to come leave.
-        let share = left.saturating_sub(2 * variables.len() as u64) / copies / (shape.constraints - i);
-        let more = share.min(MOST_IN_A_SENTENCE - many as u64);
-        left -= copies * more;
+        let own: Vec<usize> = variables.drain(..size(i) as usize).collect();
+        // An even share of the entries that the parts leave.
+        let more = (left / copies(i) / (shape.constraints - i)).min(MOST_IN_A_SENTENCE - size(i));
+        left -= copies(i) * more;
         all.push(making.constraint(i, own, more));
     }
     all
@@ -233,7 +236,7 @@ fn filled(random: &mut Random, mut text: Vec<u8>, bytes: usize) -> Vec<u8> {
         let at = first + random.index(text.len() - first);
         let filling: Vec<u8> = match text[at] {
             b' ' => (0..many).map(|_| random.pick(b"  \t\r\n")).collect(),
-            b'\n' if many >= 2 => [b"\n*".as_slice(), &vec![b'c'; many - 2]].concat(),
+            b'\n' if many >= 2 && text[at - 1] == b';' => [b"\n*".as_slice(), &vec![b'c'; many - 2]].concat(),
             _ => continue,
         };
         text.splice(at..at, filling);

@@ -157,13 +157,15 @@ fn run_console(command: &[String]) -> Result<(), String> {
     let program = Desk::new(command.to_vec(), PATIENCE);
     let (scripts, said) = desk::expected(scripts::scripts(SCRIPTS));
     everything_said(&said)?;
+    let reached = said.reach.said().map_err(|what| format!("console: {what}"))?;
     if let Some(difference) = compare(&program, &scripts) {
         let found = desk::shorter(&program, TIME, difference);
         return Err(format!("console: difference, {}", describe_with(&found, &desk::right(&found.text))));
     }
     let seconds = start.elapsed().as_secs_f64();
-    println!("console: {said:?}");
+    println!("console: {:?}", said.codes);
     println!("console: {} scripts agree, {seconds:.1} s, {:.0} scripts a second", scripts.len(), scripts.len() as f64 / seconds);
+    println!("console: {reached}");
     Ok(())
 }
 
@@ -191,7 +193,7 @@ fn everything_said(said: &Said) -> Result<(), String> {
     ];
     for (name, codes) in wanted {
         for code in codes {
-            let many = said.get(&(name, *code)).copied().unwrap_or(0);
+            let many = said.codes.get(&(name, *code)).copied().unwrap_or(0);
             if many < 2 {
                 return Err(format!("console: {name} had code {code} only {many} times"));
             }

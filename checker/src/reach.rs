@@ -19,6 +19,20 @@ pub const OPB: Floors = &[
     ("digits of a bound", 13),
 ];
 
+/// Over what the console answers with code 0.
+pub const CONSOLE: Floors = &[
+    ("rows of a trail", 1_024),
+    ("literals of an explanation", 1_024),
+    ("literals of a conflict's explanation", 1_024),
+    ("literals of an origin", 1_023),
+    ("literals derived", 1_023),
+    ("levels", 1_024),
+    ("rules", 256),
+    ("entries", 4_096),
+    ("bytes of an answer", 13_000),
+    ("bytes of a line", 65_536),
+];
+
 pub struct Reach {
     floors: Floors,
     largest: BTreeMap<&'static str, u64>,
@@ -32,6 +46,12 @@ impl Reach {
     pub fn meet(&mut self, measure: &'static str, value: u64) {
         let largest = self.largest.entry(measure).or_default();
         *largest = value.max(*largest);
+    }
+
+    pub fn add(&mut self, other: &Reach) {
+        for (measure, largest) in &other.largest {
+            self.meet(measure, *largest);
+        }
     }
 
     /// The largest of each measure, or the first that is below its floor.

@@ -163,6 +163,7 @@ pub fn scripts(many: usize) -> Vec<Text> {
     long_lines(&mut limits);
     plans(&mut limits);
     levels(&mut limits);
+    full(&mut limits);
     rounds(&mut limits);
     let mut seed = 0;
     while all.len() + limits.len() < many {
@@ -664,6 +665,25 @@ fn levels(all: &mut Vec<Text>) {
     }
     script += "propagate\nwhy -1\norigin -1\nconflict 1\ntrail\n";
     all.push(text("long lists", script));
+}
+
+/// As many rules and entries as there may be, each rule forcing three atoms at a level of its own, until every atom is on the trail.
+fn full(all: &mut Vec<Text>) {
+    let mut script = String::from("plan 1024 256\n");
+    for rule in 0..256 {
+        script += &format!("rule {} sum >= 0", 769 + rule);
+        for i in 0..16 {
+            // The own atoms first, then earlier ones, which are false, and in the first rules the own ones again.
+            let atom = 3 * rule + 1 + i % 3;
+            script += &if i < 3 || rule < 5 { format!(" -1 {atom}") } else { format!(" 1 {}", atom - i) };
+        }
+        script += "\n";
+    }
+    for rule in 0..256 {
+        script += &format!("open\ngive {}\npropagate\n", 769 + rule);
+    }
+    script += "trail\nwhy -768\norigin -768\norigin -700\nbounds 256\nopen\npropagate\nback 100\ntrail\npropagate\n";
+    all.push(text("a full plan", script));
 }
 
 /// Forty thousand gives and take-backs.
