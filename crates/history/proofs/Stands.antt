@@ -4,7 +4,7 @@
 use mathlib.Core.Path.{_≡_, refl, sym, ap, ap₂, _∙_, subst}
 use mathlib.Core.Bool.{Bool, true, false, not, _&&_}
 use mathlib.Core.List.{List, _++_}
-use Prim.Native.Nat.{ℕ, _<_}
+use Prim.Native.Nat.{ℕ, _<_, _≤_}
 use native.Mathlib.Omega.{arith}
 use borrow.Author.Tests.{eqb-true, eq-eqb, le-leb, lt-leb}
 use lib.ListN.{length}
@@ -12,12 +12,15 @@ use lib.Dec.{eqb, leb}
 use Rattle.types.specs.Limits.{base}
 use Rattle.meaning.specs.Meaning.{Sentence}
 use Rattle.meaning.specs.Merge.{Rule}
+use Rattle.book.specs.Rows.{Row}
 use Rattle.book.specs.Table.{Judged, State}
 use Rattle.book.specs.Book.{judged-all, rules-of, Book, Counters, need, fits, book-state}
 use Rattle.book.proofs.Sound.{Sound}
+use Rattle.book.proofs.Keeps.{SoundBook}
 use Rattle.area.specs.Layout.{atoms-of, level-of, rows-of, theory-of, need-of}
 use Rattle.area.specs.Whole.{Whole}
 use Rattle.whole.proofs.Gives.{need-stays}
+use Rattle.whole.proofs.Need.{ReadAlike, cut-whole, cut-alike, grown-whole, grown-alike}
 use Rattle.calls.specs.Calls.{area-state}
 use Rattle.search.proofs.Moves.{rows-count}
 use Rattle.history.proofs.Sentences.{need-is}
@@ -83,8 +86,37 @@ module _ (n : ℕ) (ss : List Sentence) where
         ∙ ap {A = List Rule} (λ rs. state false n rs w) (s .theory)
         ∙ ap {A = Bool} (λ b. state (not b) n (rules-of ss) w) (sym e)
 
-  -- ---- an area cut below the need
+  -- ---- an area cut at its end: it stands for the book as before, or is not whole
 
+  book-alike : (w w′ : List ℕ) → ReadAlike w w′ → book-of w′ ≡ book-of w
+  book-alike w w′ a = ap₂ {A = ℕ} {B = List Row} {C = Book} (λ v rs. record { atoms = n; sentences = ss; level = v; rows = rs }) (a .level) (a .rows)
+
+  stands-alike : (w w′ : List ℕ) (c : Counters) → Stands w c → Whole base w′ c → ReadAlike w w′ → Stands w′ c
+  stands-alike w w′ c s h a = record {
+    whole = h;
+    atoms = a .atoms ∙ s .atoms;
+    theory = a .theory ∙ s .theory;
+    sound = subst SoundBook (sym (book-alike w w′ a)) (s .sound);
+  }
+
+  -- longer by words behind it, or cut not below the need
+  pub stands-grown : (part rest : List ℕ) (c : Counters) → Stands part c → Stands (part ++ rest) c
+  stands-grown part rest c s = stands-alike part (part ++ rest) c s (grown-whole base part rest c (s .whole)) (grown-alike base part rest c (s .whole))
+
+  pub book-grown : (part rest : List ℕ) (c : Counters) → Stands part c → book-of part ≡ book-of (part ++ rest)
+  book-grown part rest c s = sym (book-alike part (part ++ rest) (grown-alike base part rest c (s .whole)))
+
+  module _ (part rest : List ℕ) (c : Counters) (s : Stands (part ++ rest) c) (l : need n ss ≤ length part) where
+    cut-room : need-of (part ++ rest) ≤ length part
+    cut-room = omega (arith, needed (part ++ rest) c s)
+
+    pub book-cut : book-of part ≡ book-of (part ++ rest)
+    book-cut = book-alike (part ++ rest) part (cut-alike base part rest c (s .whole) cut-room)
+
+    pub stands-cut : Stands part c
+    stands-cut = stands-alike (part ++ rest) part c s (cut-whole base part rest c (s .whole) cut-room) (cut-alike base part rest c (s .whole) cut-room)
+
+  -- cut below the need
   pub cut-fails : (b : List ℕ) (size : ℕ) (d : Counters) → size < need n ss → fits (book-of b) size d ≡ false
   cut-fails w size d l =
       last-fails (eqb (d .length-is) (length (rows-of w)) && eqb (d .level-is) (level-of w)) (leb (need n ss) size) (lt-leb (need n ss) size l)

@@ -2,13 +2,15 @@
 -- it. Then a list of calls, by induction.
 use mathlib.Core.Path.{_≡_, refl, sym, ap, ap₂, _∙_, subst}
 use mathlib.Core.Bool.{Bool, true, false, not, true≢false}
-use mathlib.Core.Logic.{_⊎_, inl, inr}
-use mathlib.Core.List.{List, [], _++_, append-nil}
-use Prim.Native.Nat.{ℕ, _<_}
+use mathlib.Core.Logic.{⊎-elim}
+use mathlib.Core.List.{List, _++_}
+use Prim.Native.Nat.{ℕ, _+_, _<_, _≤_}
 use native.Mathlib.Omega.{arith}
-use lib.ListN.{length, drop}
+use lib.ListN.{length, drop, length-append}
+use lib.Seq.{drop-append-le}
 use Rattle.types.specs.Limits.{base}
 use Rattle.types.specs.declared.Counters as t
+use Rattle.numbers.proofs.Words.{cases}
 use Rattle.meaning.specs.Meaning.{Sentence, Each}
 use Rattle.book.specs.Rows.{Row}
 use Rattle.book.specs.Table.{refused, paper, list-after, State, Outcome, unchanged, reply}
@@ -19,11 +21,11 @@ use Rattle.book.proofs.Keeps.{SoundBook, turn-sound}
 use Rattle.area.specs.Layout.{level-of, rows-of}
 use Rattle.area.specs.Whole.{Whole}
 use Rattle.calls.specs.Calls.{counted, area-state}
-use Rattle.history.specs.History.{Event, Step, Calls, none, next, asked-in, HandedBack}
+use Rattle.history.specs.History.{Event, Calls, none, next, asked-in, HandedBack}
 use Rattle.history.proofs.Sentences.{need-is}
 use Rattle.history.proofs.Replies.{nine}
 use Rattle.history.proofs.Ways.{Way, way, asked-is, way-broken, way-whole}
-use Rattle.history.proofs.Stands.{computed, book-of, Stands, whole-fits, fits-whole, state-is, cut-fails, cut-broken}
+use Rattle.history.proofs.Stands.{computed, book-of, Stands, whole-fits, fits-whole, state-is, stands-grown, book-grown, stands-cut, book-cut, cut-fails, cut-broken}
 
 module _ (n : ℕ) (ss : List Sentence) (well : Each (WellFormed n) ss) where
   -- the book's turn at what the call was asked, from the area's level and rows
@@ -93,16 +95,32 @@ module _ (n : ℕ) (ss : List Sentence) (well : Each (WellFormed n) ss) where
       go true f = step-whole w w′ c d c′ e s f p
       go false f = step-broken w w′ w w′ c d c′ e s (λ x. x) (λ h. true≢false (sym (whole-fits n ss w (counted c) s (counted d) h) ∙ f)) f p
 
-  step : (w w′ part part′ rest : List ℕ) (c d c′ : t.Counters) (e : Event) → Stands n ss w (counted c) → w ≡ part ++ rest → (rest ≡ []) ⊎ (length part < need n ss)
-      → Step part c d part′ e c′ → w′ ≡ part′ ++ rest → Stepped w w′ e c′
-  step w w′ part part′ rest c d c′ e s i (inl x) p j =
-      let uncut : (v : List ℕ) → v ++ rest ≡ v = λ v. ap {A = List ℕ} (λ y. v ++ y) x ∙ append-nil v in
-      subst (λ v. Stepped w v e c′) (sym (j ∙ uncut part′))
-      (step-uncut w part′ c d c′ e s (subst (λ v. Way v c d part′ e c′) (sym (i ∙ uncut part)) (way p)))
-  step w w′ part part′ rest c d c′ e s i (inr l) p j =
-      step-broken w w′ part part′ c d c′ e s (λ x. j ∙ ap {A = List ℕ} (λ v. v ++ rest) x ∙ sym i)
-      (cut-broken n ss part rest (counted c) (counted d) (subst (λ v. Stands n ss v (counted c)) i s) l)
-      (cut-fails n ss w (length part) (counted d) l) (way p)
+  -- a call on the first part of the words does with it what it would do with all of them
+  step-cut : (part part′ rest : List ℕ) (c d c′ : t.Counters) (e : Event) → Stands n ss (part ++ rest) (counted c) → need n ss ≤ length part
+      → Way part c d part′ e c′ → Stepped (part ++ rest) (part′ ++ rest) e c′
+  step-cut part part′ rest c d c′ e s l p =
+      let x = step-uncut part part′ c d c′ e (stands-cut n ss part rest (counted c) s l) p in
+      let m : need n ss ≤ length part′ = omega (arith, x .size) in
+      let b : turned part (e .asked) ≡ turned (part ++ rest) (e .asked) =
+      ap {A = Book} (λ y. turn base (computed ss) y (e .asked)) (book-cut n ss part rest (counted c) s l) in
+      record {
+        stands = stands-grown n ss part′ rest (counted c′) (x .stands);
+        size = length-append part′ rest ∙ ap {A = ℕ} (λ k. k + length rest) (x .size) ∙ sym (length-append part rest);
+        past-need = drop-append-le (need n ss) part′ rest m ∙ ap {A = List ℕ} (λ v. v ++ rest) (x .past-need) ∙ sym (drop-append-le (need n ss) part rest l);
+        numbers = x .numbers ∙ ap {A = Outcome} (λ o. paper (o .answer)) b;
+        list = x .list ∙ ap {A = Outcome} (λ o. list-after (o .answer) (e .old)) b;
+        book = ap₂ {A = Book} {B = Outcome} after (sym (book-cut n ss part rest (counted c) s l)) (sym b) ∙ x .book ∙ book-grown n ss part′ rest (counted c′) (x .stands);
+      }
+
+  step : (part part′ rest : List ℕ) (c d c′ : t.Counters) (e : Event) → Stands n ss (part ++ rest) (counted c) → Way part c d part′ e c′
+      → Stepped (part ++ rest) (part′ ++ rest) e c′
+  step part part′ rest c d c′ e s p =
+      ⊎-elim
+      (λ (l : need n ss ≤ length part). step-cut part part′ rest c d c′ e s l p)
+      (λ (l : length part < need n ss).
+      step-broken (part ++ rest) (part′ ++ rest) part part′ c d c′ e s (ap {A = List ℕ} (λ v. v ++ rest))
+      (cut-broken n ss part rest (counted c) (counted d) s l) (cut-fails n ss (part ++ rest) (length part) (counted d) l) p)
+      (cases (length part) (need n ss))
 
   -- ---- a list of calls
 
@@ -113,11 +131,12 @@ module _ (n : ℕ) (ss : List Sentence) (well : Each (WellFormed n) ss) where
     pub handed : HandedBack es (answers base (computed ss) (book-of n ss w) (asked-in es))
     pub book : played base (computed ss) (book-of n ss w) (asked-in es) ≡ book-of n ss w′
 
-  pub followed : {w w′ : List ℕ} {c c′ : t.Counters} {es : List Event} → Calls n ss w c es w′ c′ → Stands n ss w (counted c) → Followed w es w′ c′
+  pub followed : {w w′ : List ℕ} {c c′ : t.Counters} {es : List Event} → Calls w c es w′ c′ → Stands n ss w (counted c) → Followed w es w′ c′
   unfolding answers played
   followed none s = record { stands = s; size = refl; past-need = refl; handed = tt; book = refl }
-  followed {w} (next {w₁ = w₁} {c = c} {d = d} {c₁ = c₁} {e = e} {es = es} part part₁ rest i k p j more) s =
-      let x = step w w₁ part part₁ rest c d c₁ e s i k p j in
+  followed {w} (next {w₁ = w₁} {c = c} {d = d} {c₁ = c₁} {e = e} {es = es} part part₁ rest i p j more) s =
+      let cut = step part part₁ rest c d c₁ e (subst (λ v. Stands n ss v (counted c)) i s) (way p) in
+      let x : Stepped w w₁ e c₁ = subst (λ v. Stepped v w₁ e c₁) (sym i) (subst (λ v. Stepped (part ++ rest) v e c₁) (sym j) cut) in
       let y = followed more (x .stands) in
       record {
         stands = y .stands;

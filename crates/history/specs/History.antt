@@ -1,7 +1,6 @@
 -- The claim about every list of calls after an accepted load. Its steps are the public contracts; its answers are the book's.
 use mathlib.Core.Path.{_≡_}
 use mathlib.Core.Bool.{cond}
-use mathlib.Core.Logic.{_⊎_}
 use mathlib.Core.List.{List, [], _∷_, _++_}
 use Prim.Native.Nat.{ℕ, suc, _<_}
 use lib.ListN.{length, take, drop}
@@ -64,13 +63,11 @@ pub data Step (w : List ℕ) (c d : t.Counters) : List ℕ → Event → t.Count
 
 -- ---- a list of calls, from the words and counters before it to those after it
 
-module _ (n : ℕ) (ss : List Sentence) where
-  pub data Calls : List ℕ → t.Counters → List Event → List ℕ → t.Counters → Type 0 where
-    none : {w : List ℕ} {c : t.Counters} → Calls w c [] w c
-    -- the next call gets any counters, and the words that are there or, cut at their end, fewer than the need
-    next : {w w₁ w₂ : List ℕ} {c d c₁ c₂ : t.Counters} {e : Event} {es : List Event} (part part₁ rest : List ℕ)
-        → w ≡ part ++ rest → (rest ≡ []) ⊎ (length part < need n ss) → Step part c d part₁ e c₁ → w₁ ≡ part₁ ++ rest
-        → Calls w₁ c₁ es w₂ c₂ → Calls w c (e ∷ es) w₂ c₂
+pub data Calls : List ℕ → t.Counters → List Event → List ℕ → t.Counters → Type 0 where
+  none : {w : List ℕ} {c : t.Counters} → Calls w c [] w c
+  -- the next call gets any counters, and the words that are there or any first part of them; the rest of them stays as it is
+  next : {w w₁ w₂ : List ℕ} {c d c₁ c₂ : t.Counters} {e : Event} {es : List Event} (part part₁ rest : List ℕ)
+      → w ≡ part ++ rest → Step part c d part₁ e c₁ → w₁ ≡ part₁ ++ rest → Calls w₁ c₁ es w₂ c₂ → Calls w c (e ∷ es) w₂ c₂
 
 -- ---- the claim
 
@@ -117,5 +114,5 @@ start = record { length = 0; level = record { 0 = 0 } }
 abbrev pub History : Type 0
 History =
     (w₀ w : List ℕ) (n : ℕ) (columns : Columns) (r : c.Answer) → Loads base w₀ w n columns r → r .code ≡ 0
-    → (es : List Event) (w′ : List ℕ) (c : t.Counters) → Calls n (sentences-in (all-written columns)) w start es w′ c
+    → (es : List Event) (w′ : List ℕ) (c : t.Counters) → Calls w start es w′ c
     → Claim n (sentences-in (all-written columns)) w es w′ c

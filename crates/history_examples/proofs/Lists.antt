@@ -23,13 +23,12 @@ use Rattle.calls.specs.declared.Bounds.{Bounds}
 use Rattle.calls.specs.declared.Listed.{Listed}
 use Rattle.propagate.specs.declared.Propagated.the-variants.{Still, Conflict}
 use Rattle.whole.specs.Parts.{counters}
-use Rattle.columns.specs.Columns.{Columns, paired, written-from, all-written, sentences-in}
+use Rattle.columns.specs.Columns.{Columns, paired, written-from, sentences-in}
 use Rattle.columns.specs.Refusals.{some, both-signs, all-refusals, first-refusal, load-answer}
 use Rattle.load.specs.Load.{Loaded, Loads}
-use Rattle.load.specs.Examples.{given, area}
-use Rattle.load.proofs.Examples.{example-loaded}
+use Rattle.load.specs.Examples.{given}
 use Rattle.history.specs.History.{Calls, none, gives, opens, takes-back, propagates, reads-bounds, lists-explanation, lists-conflict, lists-origin, lists-trail}
-use Rattle.history_examples.specs.Examples.{counters-at, sevens, load-done, FromLoad, events, m11-one, m11-two, m11-opened, m11-derived, m11-against, m11-again, m11-turns, ring-columns, m12-loaded, m12-given, m12-derived, m12-turns}
+use Rattle.history_examples.specs.Examples.{counters-at, sevens, load-done, FromLoad, events, m11-loaded, m11-one, m11-two, m11-opened, m11-derived, m11-against, m11-again, m11-turns, ring-columns, m12-loaded, m12-given, m12-derived, m12-turns}
 use Rattle.history_examples.proofs.Decide.{decided, miscounted, cut-short}
 use Rattle.history_examples.proofs.Steps.{answered, moving, keeping, refusing, listing, refusing-list, then, then-cut}
 
@@ -49,9 +48,20 @@ accepting : {w₀ w : List ℕ} {n : ℕ} {cs : Columns} (size : ℕ) → length
 accepting {n = n} {cs = cs} size e a l =
     record { answer-is = subst (λ k. load-done ≡ load-answer base k n cs) (sym e) a; refused = λ r. absurd (r refl); accepted = λ _. l }
 
+-- the word past the need, behind k others
+abbrev spare : List ℕ
+spare = 7 ∷ []
+
+module _ (front : List ℕ) (k : ℕ) (e : length front ≡ k) where
+  with-spare : length (front ++ spare) ≡ k + 1
+  with-spare = length-append front spare ∙ ap (λ m. m + 1) e
+
+  spare-behind : drop k (front ++ spare) ≡ spare
+  spare-behind = subst (λ m. drop m (front ++ spare) ≡ spare) e (drop-append-seam front spare)
+
 -- ---- M11
 
-m11-calls : Calls 3 (sentences-in (all-written given)) area (counters-at 0 0) (events m11-turns) m11-again (counters-at 3 0)
+m11-calls : Calls m11-loaded (counters-at 0 0) (events m11-turns) m11-again (counters-at 3 0)
 unfolding rows-from value-word entries-of rules-from entries-before unbias literal-of gather standing extreme first-due says up-to pick causes row-of numbered any comes-from in-order flat speech run reply paired written-from sentences-in sum-first
 m11-calls =
     then m11-one (gives _ (done-as _ (counters-at 1 0)) (moving tt refl tt tt refl))
@@ -59,11 +69,11 @@ m11-calls =
     (then m11-one (gives _ (done-as _ (counters-at 0 0)) (refusing (miscounted base _ _ tt) refl))
     (then m11-two (gives _ (done-as _ (counters-at 2 0)) (moving tt refl tt tt refl))
     (then m11-opened (opens (done-as _ (counters-at 2 1)) (moving tt refl tt tt refl))
-    (then m11-derived (propagates (Still _ (counters-at 3 1)) (moving tt refl tt tt refl, tt))
+    (then-cut 24 m11-derived refl (propagates (Still _ (counters-at 3 1)) (moving tt refl tt tt refl, tt))
     (then m11-derived (lists-trail (sevens 9) _ (listed-as _ _) (listing tt refl refl))
     (then m11-derived (lists-explanation _ (sevens 4) _ (listed-as _ _) (listing tt refl refl))
     (then m11-derived (lists-origin _ (sevens 1) _ (listed-as _ _) (listing tt refl refl))
-    (then-cut 23 tt (takes-back _ (done-as _ (counters-at 3 1)) (refusing (cut-short base _ _ tt) refl))
+    (then-cut 23 m11-derived refl (takes-back _ (done-as _ (counters-at 3 1)) (refusing (cut-short base _ _ tt) refl))
     (then m11-derived (takes-back _ (done-as _ (counters-at 3 1)) (keeping tt refl tt))
     (then m11-two (takes-back _ (done-as _ (counters-at 2 0)) (moving tt refl tt tt refl))
     (then m11-two (reads-bounds _ (bounds-as _ _ _ _ _) (answered tt refl))
@@ -78,23 +88,36 @@ m11-calls =
     (then m11-again (lists-origin _ (sevens 3) _ (listed-as _ _) (listing tt refl refl))
     none)))))))))))))))))))))
 
-pub m11-listed : (w₀ : List ℕ) → length w₀ ≡ 24 → FromLoad w₀ area 3 given (m4 ∷ []) (events m11-turns) m11-again (counters-at 3 0)
-unfolding paired written-from sentences-in sum-first some both-signs all-refusals first-refusal
-m11-listed w₀ e = record { loads = accepting 24 e refl (example-loaded w₀ e); sentences = refl; calls = m11-calls }
+module _ (front : List ℕ) (e : length front ≡ 24) where
+  m11-stored : Loaded base (front ++ spare) m11-loaded 3 given
+  unfolding rows-from value-word entries-of rules-from entries-before unbias literal-of turned-all freed-all put collect nonzero gather standing extreme paired written-from sentences-in sum-first
+  m11-stored = record {
+    whole = decided base m11-loaded (counters 0 0) tt;
+    atoms = refl;
+    theory = refl;
+    rows = refl;
+    level = refl;
+    size = sym (with-spare front 24 e);
+    rest = sym (spare-behind front 24 e);
+  }
+
+  pub m11-listed : FromLoad (front ++ spare) m11-loaded 3 given (m4 ∷ []) (events m11-turns) m11-again (counters-at 3 0)
+  unfolding paired written-from sentences-in sum-first some both-signs all-refusals first-refusal
+  m11-listed = record { loads = accepting 25 (with-spare front 24 e) refl m11-stored; sentences = refl; calls = m11-calls }
 
 -- ---- M12
 
-m12-calls : Calls 2 (sentences-in (all-written ring-columns)) m12-loaded (counters-at 0 0) (events m12-turns) m12-derived (counters-at 2 0)
+m12-calls : Calls m12-loaded (counters-at 0 0) (events m12-turns) m12-derived (counters-at 2 0)
 unfolding rows-from value-word entries-of rules-from entries-before unbias literal-of gather standing extreme first-due says pick causes row-of numbered any comes-from in-order flat speech run reply paired written-from sentences-in sum-first
 m12-calls =
-    then m12-given (gives _ (done-as _ (counters-at 1 0)) (moving tt refl tt tt refl))
+    then-cut 28 m12-given refl (gives _ (done-as _ (counters-at 1 0)) (moving tt refl tt tt refl))
     (then m12-derived (propagates (Still _ (counters-at 2 0)) (moving tt refl tt tt refl, tt))
-    (then m12-derived (lists-trail (sevens 6) _ (listed-as _ _) (listing tt refl refl))
+    (then-cut 28 m12-derived refl (lists-trail (sevens 6) _ (listed-as _ _) (listing tt refl refl))
     (then m12-derived (lists-explanation _ (sevens 2) _ (listed-as _ _) (listing tt refl refl))
     (then m12-derived (lists-explanation _ (sevens 2) _ (listed-as _ _) (listing tt refl refl))
     (then m12-derived (lists-origin _ (sevens 0) _ (listed-as _ _) (listing tt refl refl))
     (then m12-derived (lists-origin _ (sevens 1) _ (listed-as _ _) (listing tt refl refl))
-    (then-cut 27 tt (lists-origin _ (sevens 1) _ (listed-as _ _) (refusing-list (cut-short base _ _ tt) refl))
+    (then-cut 27 m12-derived refl (lists-origin _ (sevens 1) _ (listed-as _ _) (refusing-list (cut-short base _ _ tt) refl))
     (then m12-derived (lists-conflict _ (sevens 1) _ (listed-as _ _) (listing tt refl refl))
     (then m12-derived (reads-bounds _ (bounds-as _ _ _ _ _) (answered tt refl))
     (then m12-derived (reads-bounds _ (bounds-as _ _ _ _ _) (answered tt refl))
@@ -102,10 +125,7 @@ m12-calls =
     none)))))))))))
 
 module _ (front : List ℕ) (e : length front ≡ 28) where
-  m12-size : length (front ++ (7 ∷ [])) ≡ 29
-  m12-size = length-append front (7 ∷ []) ∙ ap (λ k. k + 1) e
-
-  m12-stored : Loaded base (front ++ (7 ∷ [])) m12-loaded 2 ring-columns
+  m12-stored : Loaded base (front ++ spare) m12-loaded 2 ring-columns
   unfolding rows-from value-word entries-of rules-from entries-before unbias literal-of turned-all freed-all put collect nonzero gather standing extreme paired written-from sentences-in sum-first
   m12-stored = record {
     whole = decided base m12-loaded (counters 0 0) tt;
@@ -113,10 +133,10 @@ module _ (front : List ℕ) (e : length front ≡ 28) where
     theory = refl;
     rows = refl;
     level = refl;
-    size = sym m12-size;
-    rest = sym (subst (λ k. drop k (front ++ (7 ∷ [])) ≡ 7 ∷ []) e (drop-append-seam front (7 ∷ [])));
+    size = sym (with-spare front 28 e);
+    rest = sym (spare-behind front 28 e);
   }
 
-  pub m12-listed : FromLoad (front ++ (7 ∷ [])) m12-loaded 2 ring-columns (ring 1 2 ∷ ring 2 1 ∷ []) (events m12-turns) m12-derived (counters-at 2 0)
+  pub m12-listed : FromLoad (front ++ spare) m12-loaded 2 ring-columns (ring 1 2 ∷ ring 2 1 ∷ []) (events m12-turns) m12-derived (counters-at 2 0)
   unfolding paired written-from sentences-in sum-first some both-signs all-refusals first-refusal
-  m12-listed = record { loads = accepting 29 m12-size refl m12-stored; sentences = refl; calls = m12-calls }
+  m12-listed = record { loads = accepting 29 (with-spare front 28 e) refl m12-stored; sentences = refl; calls = m12-calls }

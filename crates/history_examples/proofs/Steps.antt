@@ -1,19 +1,17 @@
 -- Calls on concrete words: what a contract asks, from facts that compute; and a list of calls, call by call.
-use mathlib.Core.Path.{_≡_, refl, sym, ap}
+use mathlib.Core.Path.{_≡_, refl, sym, ap, _∙_}
 use mathlib.Core.Bool.{not}
-use mathlib.Core.Logic.{inl, inr}
-use mathlib.Core.List.{List, [], _∷_, append-nil}
+use mathlib.Core.List.{List, [], _∷_, _++_, append-nil}
 use Prim.Native.Nat.{ℕ}
 use lib.ListN.{length, take, drop, take-append-drop}
 use lib.IntN.{ℤ}
-use lib.Dec.{T, T-not, ltb, ltb→lt}
+use lib.Dec.{T, T-not}
 use Rattle.types.specs.Limits.{base}
 use Rattle.types.specs.declared.Counters as t
-use Rattle.meaning.specs.Meaning.{Sentence}
 use Rattle.meaning.specs.Merge.{Rule}
 use Rattle.book.specs.Rows.{Row}
 use Rattle.book.specs.Table.{Call, refused, Paper, paper, list-after, Outcome, reply}
-use Rattle.book.specs.Book.{Counters, need}
+use Rattle.book.specs.Book.{Counters}
 use Rattle.area.specs.Layout.{atoms-of, level-of, rows-of, theory-of, need-of}
 use Rattle.area.specs.Whole.{Whole}
 use Rattle.calls.specs.Calls.{area-state, Answered, keeps, Acts, Lists}
@@ -91,13 +89,13 @@ module _ {w : List ℕ} {c : Counters} {x : Call} {p : Paper} where
 
 -- ---- lists of calls
 
-module _ {n : ℕ} {ss : List Sentence} {w w₂ : List ℕ} {c c₁ c₂ : t.Counters} {e : Event} {es : List Event} {len level : ℕ} where
+module _ {w w₂ : List ℕ} {c c₁ c₂ : t.Counters} {e : Event} {es : List Event} {len level : ℕ} where
   -- a call on all words, which leaves w₁
-  pub then : (w₁ : List ℕ) → Step w c (counters-at len level) w₁ e c₁ → Calls n ss w₁ c₁ es w₂ c₂ → Calls n ss w c (e ∷ es) w₂ c₂
-  then w₁ s later = next w w₁ [] (sym (append-nil w)) (inl refl) s (sym (append-nil w₁)) later
+  pub then : (w₁ : List ℕ) → Step w c (counters-at len level) w₁ e c₁ → Calls w₁ c₁ es w₂ c₂ → Calls w c (e ∷ es) w₂ c₂
+  then w₁ s later = next w w₁ [] (sym (append-nil w)) s (sym (append-nil w₁)) later
 
-  -- a call on the first k words, fewer than the need, which changes none
-  pub then-cut : (k : ℕ) → T (ltb (length (take k w)) (need n ss)) → Step (take k w) c (counters-at len level) (take k w) e c₁ → Calls n ss w c₁ es w₂ c₂
-      → Calls n ss w c (e ∷ es) w₂ c₂
-  then-cut k l s later =
-      next (take k w) (take k w) (drop k w) (sym (take-append-drop k w)) (inr (ltb→lt (length (take k w)) (need n ss) l)) s (sym (take-append-drop k w)) later
+  -- a call on the first k words, which leaves those of w₁; the others are as they were
+  pub then-cut : (k : ℕ) (w₁ : List ℕ) → drop k w₁ ≡ drop k w → Step (take k w) c (counters-at len level) (take k w₁) e c₁ → Calls w₁ c₁ es w₂ c₂
+      → Calls w c (e ∷ es) w₂ c₂
+  then-cut k w₁ same s later =
+      next (take k w) (take k w₁) (drop k w) (sym (take-append-drop k w)) s (sym (take-append-drop k w₁) ∙ ap (λ v. take k w₁ ++ v) same) later

@@ -14,7 +14,6 @@ use Rattle.propagate.specs.Propagate.{plain}
 use Rattle.columns.specs.Columns.{Columns, columns, all-written, sentences-in}
 use Rattle.columns.specs.declared.Answer.{Answer}
 use Rattle.load.specs.Load.{Loads}
-use Rattle.load.specs.Examples.{area}
 use Rattle.history.specs.History.{Event, Calls}
 
 -- ---- a list of calls from an accepted load
@@ -29,7 +28,7 @@ load-done = record { code = 0; sentence = record { 0 = 0 } }
 pub record FromLoad (w₀ w : List ℕ) (n : ℕ) (cs : Columns) (ss : List Sentence) (es : List Event) (w′ : List ℕ) (c : Counters) : Type 0 where
   pub loads : Loads base w₀ w n cs load-done
   pub sentences : sentences-in (all-written cs) ≡ ss
-  pub calls : Calls n (sentences-in (all-written cs)) w (counters-at 0 0) es w′ c
+  pub calls : Calls w (counters-at 0 0) es w′ c
 
 -- ---- a call: the words that it gets, and what it is asked and hands back
 
@@ -64,16 +63,19 @@ sevens (suc k) = pos 7 ∷ sevens k
 abbrev pub spans : (least greatest : ℕ) → Paper
 spans v w = record { code = 0; value = 0; sentence = 0; least-mark = 0; least = pos v; greatest-mark = 0; greatest = pos w }
 
--- ---- M11, and M5's conflict on its way: 3 atoms, 24 words
+-- ---- M11, and M5's conflict on its way: 3 atoms, on 25 words, one more than the need
 
--- the sentence's words: head, tag, bound, constant; least, greatest, entries before it, counts; two entries
+-- the sentence's words: head, tag, bound, constant; least, greatest, entries before it, counts; two entries; and the word past the need
 abbrev pub m4-words : (tag least greatest : ℕ) → List ℕ
 m4-words tag least greatest =
     3 ∷ tag ∷ 4611686018427387905 ∷ 4611686018427387904 ∷ least ∷ greatest ∷ 0 ∷ 131074
-    ∷ 4611686018427387905 ∷ 2 ∷ 4611686018427387906 ∷ 4 ∷ []
+    ∷ 4611686018427387905 ∷ 2 ∷ 4611686018427387906 ∷ 4 ∷ 7 ∷ []
 
--- before them word 0 and two unused, the values, the trail's literals and its marks. Load leaves the words `area` of its own example;
--- then 3 is given
+-- before them word 0 and two unused, the values, the trail's literals and its marks. What load leaves
+abbrev pub m11-loaded : List ℕ
+m11-loaded = 65539 ∷ 0 ∷ 0 ∷ 0 ∷ 0 ∷ 0 ∷ 0 ∷ 0 ∷ 0 ∷ 0 ∷ 0 ∷ 0 ∷ m4-words 24 4611686018427387904 4611686018427387907
+
+-- 3 is given
 abbrev pub m11-one : List ℕ
 m11-one = 4295032835 ∷ 0 ∷ 0 ∷ 0 ∷ 0 ∷ 1 ∷ 6 ∷ 0 ∷ 0 ∷ 0 ∷ 0 ∷ 0 ∷ m4-words 24 4611686018427387904 4611686018427387907
 
@@ -99,16 +101,17 @@ m11-again = 12884967427 ∷ 0 ∷ 0 ∷ 3 ∷ 6 ∷ 1 ∷ 6 ∷ 2 ∷ 5 ∷ 0 �
 
 abbrev pub m11-turns : List Turn
 m11-turns =
-    asks area 0 0 (give (pos 3)) (plain 0 0 0)
+    asks m11-loaded 0 0 (give (pos 3)) (plain 0 0 0)
     -- its atom is on the trail; and the counters of the first call once more
     ∷ asks m11-one 1 0 (give (minus 3)) (plain 11 0 0)
     ∷ asks m11-one 0 0 (give (pos 1)) (plain 9 0 0)
     ∷ asks m11-one 1 0 (give (pos 1)) (plain 0 0 0)
     ∷ asks m11-two 2 0 open-level (plain 0 0 0)
-    ∷ asks m11-opened 2 1 propagate (plain 0 1 0)
+    -- on an area cut to just its need
+    ∷ asks (take 24 m11-opened) 2 1 propagate (plain 0 1 0)
     ∷ asks-list m11-derived 3 1 list-trail (plain 0 9 0) (sevens 9) (pos 3 ∷ pos 0 ∷ pos 0 ∷ pos 1 ∷ pos 0 ∷ pos 0 ∷ minus 2 ∷ pos 1 ∷ pos 1 ∷ [])
     ∷ asks-list m11-derived 3 1 (explain (minus 2)) (plain 0 3 0) (sevens 4) (minus 2 ∷ minus 3 ∷ minus 1 ∷ pos 7 ∷ [])
-    -- a list too short for the two origins; the area cut by a word; a level above the current one
+    -- a list too short for the two origins; the area cut below its need; a level above the current one
     ∷ asks-list m11-derived 3 1 (origin (minus 2)) (plain 18 2 0) (sevens 1) (sevens 1)
     ∷ asks (take 23 m11-derived) 3 1 (take-back 0) (plain 9 0 0)
     ∷ asks m11-derived 3 1 (take-back 2) (plain 15 0 0)
@@ -152,9 +155,10 @@ m12-derived = 8590065666 ∷ 0 ∷ 1 ∷ 3 ∷ 2 ∷ 4 ∷ 0 ∷ 4295032832 ∷ 
 
 abbrev pub m12-turns : List Turn
 m12-turns =
-    asks m12-loaded 0 0 (give (pos 1)) (plain 0 0 0)
+    -- on an area cut to just its need, as the third
+    asks (take 28 m12-loaded) 0 0 (give (pos 1)) (plain 0 0 0)
     ∷ asks m12-given 1 0 propagate (plain 0 1 0)
-    ∷ asks-list m12-derived 2 0 list-trail (plain 0 6 0) (sevens 6) (pos 1 ∷ pos 0 ∷ pos 0 ∷ pos 2 ∷ pos 0 ∷ pos 1 ∷ [])
+    ∷ asks-list (take 28 m12-derived) 2 0 list-trail (plain 0 6 0) (sevens 6) (pos 1 ∷ pos 0 ∷ pos 0 ∷ pos 2 ∷ pos 0 ∷ pos 1 ∷ [])
     ∷ asks-list m12-derived 2 0 (explain (pos 2)) (plain 0 2 0) (sevens 2) (pos 2 ∷ minus 1 ∷ [])
     -- the literal was given; a list too short
     ∷ asks-list m12-derived 2 0 (explain (pos 1)) (plain 13 0 0) (sevens 2) (sevens 2)

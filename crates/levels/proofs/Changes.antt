@@ -18,8 +18,8 @@ use Rattle.calls.specs.Calls.{Moved}
 use Rattle.step.specs.Step.{Standing}
 use Rattle.whole.specs.Parts.{counters}
 use Rattle.whole.proofs.Join.{parts}
-use Rattle.refresh.proofs.Frame.{same-record}
-use Rattle.refresh.proofs.Theories.{SameTheory, rule-stays}
+use Rattle.whole.proofs.Frame.{same-record}
+use Rattle.whole.proofs.Theories.{SameTheory, theory-behind, rule-stays}
 use Rattle.refresh.proofs.WholeNext.{RenewedWhole}
 
 pub whole-stands : (lim : Limits) (w : List ℕ) (len level : ℕ) → Fitting lim → Whole lim w (counters len level) → Standing lim w (atoms-of w) len level
@@ -45,11 +45,10 @@ module _ (lim : Limits) (w w′ : List ℕ) (c : Counters) (h : Whole lim w c) (
   S = sentences-of w
 
   theory-same : SameTheory w w′ n S
-  theory-same = record {
-    size = size;
-    records = λ s l. same-record w w′ (record-at n s) (λ i m u. rest i (omega arith)) (h .theory .each s l .tag);
-    behind = λ i l. rest i (omega arith);
-  }
+  theory-same =
+      theory-behind size
+      (λ s l. same-record w w′ (record-at n s) (λ i m u. rest i (omega arith)) (h .theory .each s l .tag))
+      (λ i l. rest i (omega arith))
 
   pub reason-kept : (i : ℕ) → Reasoned w n S i → literal-at w′ n i ≡ literal-at w n i → mark-at w′ n i ≡ mark-at w n i → Reasoned w′ n S i
   reason-kept i r e m =

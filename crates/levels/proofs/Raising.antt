@@ -21,7 +21,7 @@ use Rattle.step.specs.Step.{Standing}
 use Rattle.step.proofs.Headers.{headed, Headed, header-set, headed-rows, raise-stands}
 use Rattle.whole.specs.Parts.{counters}
 use Rattle.refresh.specs.Refresh.{Refreshed}
-use Rattle.refresh.proofs.Frame.{same-record}
+use Rattle.whole.proofs.Frame.{same-record}
 use Rattle.refresh.proofs.WholeNext.{TrailChanged, RenewedWhole, renewed-whole}
 use Rattle.calls.proofs.Acting.{acts-kept, acts-moved}
 use Rattle.levels.proofs.Replies.{open-refused, open-passes}

@@ -25,11 +25,11 @@ use Rattle.columns.specs.Refusals.{need}
 use Rattle.columns.proofs.Accepted.{Accepted}
 use Rattle.whole.specs.Parts.{counters, Matching}
 use Rattle.refresh.specs.Refresh.{Refreshable, Untouched, AsBefore, Renewed, Refreshed}
-use Rattle.refresh.proofs.Frame.{drop-same}
-use Rattle.refresh.proofs.Theories.{SameTheory, rule-stays, sentence-stays, rules-stay, places-stay}
-use Rattle.refresh.proofs.Trails.{header-stays, trail-stays}
+use Rattle.whole.proofs.Join.{joined-at}
+use Rattle.whole.proofs.Frame.{drop-same}
+use Rattle.whole.proofs.Theories.{SameTheory, theory-behind, rule-stays, sentence-stays, rules-stay, places-stay}
+use Rattle.whole.proofs.Trails.{header-stays, trail-stays}
 use Rattle.refresh.proofs.Matching.{renewed-matches}
-use Rattle.refresh.proofs.WholeNext.{joined-at}
 use Rattle.load.specs.Stored.{AllStored}
 use Rattle.load.specs.Load.{Loaded}
 use Rattle.load.proofs.Storing.{Small, small, written-is}
@@ -147,7 +147,7 @@ module _ (lim : Limits) (w w1 : List ℕ) (n : ℕ) (c : Columns) (fit : Fitting
 
   module _ (w2 touched : List ℕ) (all : (a : ℕ) → a ≤ 4096 → word touched a ≡ 1) (done : Refreshed w1 w2 n S touched) where
     same : SameTheory w1 w2 n S
-    same = record { size = done .size; records = λ s h. done .each s h .same; behind = done .behind }
+    same = theory-behind (done .size) (λ s h. done .each s h .same) (done .behind)
 
     -- the head of each sentence is touched
     matches : (s : ℕ) → s < S → Matching w2 n S (record-at n s) []
@@ -170,14 +170,14 @@ module _ (lim : Limits) (w w1 : List ℕ) (n : ℕ) (c : Columns) (fit : Fitting
     sentences-new = ap {A = ℕ} (λ x. x / 65536 % 65536) first ∙ sentences-are
 
     header-new : HeaderOk lim w2 0 0
-    header-new = header-stays lim w1 w2 0 0 (done .size) first header
+    header-new = header-stays lim w1 w2 0 0 (omega (arith, done .size, header .records)) first header
 
     whole : Whole lim w2 (counters 0 0)
     unfolding rows-from
     whole = joined-at lim w2 0 0 n S atoms-new sentences-new header-new
         (record {
           trail-ok = trail-stays w1 w2 n (done .front) 0 0 (omega arith) trail-ok;
-          places = places-stay same lim places;
+          places = places-stay same lim (omega (arith, done .size, places .room)) places;
           sentences = λ s h. record { words = sentence-stays same lim s h (sentence-ok s h); matching = matches s h };
           reasons = λ i l. absurd (omega arith);
         })

@@ -17,12 +17,12 @@ use Rattle.area.specs.Layout.{word, atoms-of, sentences-of, rows-from, rows-of,
 use Rattle.area.specs.Whole.{Whole}
 use Rattle.trail_check.specs.Trail.{HeaderOk}
 use Rattle.whole.specs.Parts.{counters, Matching, SentenceRight, AllRight}
-use Rattle.whole.proofs.Join.{Parts, parts}
-use Rattle.refresh.specs.Refresh.{SameRecord}
-use Rattle.refresh.proofs.Frame.{drop-same}
-use Rattle.refresh.proofs.Theories.{SameTheory, rule-stays, sentence-stays, rules-stay, before-stays, places-stay}
-use Rattle.refresh.proofs.Trails.{header-stays, rows-stay, trail-stays, reason-stays}
-use Rattle.refresh.proofs.WholeNext.{RenewedWhole, joined-at}
+use Rattle.whole.specs.Same.{SameRecord}
+use Rattle.whole.proofs.Join.{Parts, parts, joined-at}
+use Rattle.whole.proofs.Frame.{drop-same}
+use Rattle.whole.proofs.Theories.{SameTheory, theory-behind, rule-stays, sentence-stays, rules-stay, before-stays, places-stay}
+use Rattle.whole.proofs.Trails.{header-stays, rows-stay, trail-stays, reason-stays}
+use Rattle.refresh.proofs.WholeNext.{RenewedWhole}
 use Rattle.propagate.specs.Settle.{Settled}
 use Rattle.propagate.proofs.Heard.{all-silent}
 
@@ -60,7 +60,7 @@ module _ (lim : Limits) (w w′ : List ℕ) (len level : ℕ) (h : Whole lim w (
       }
 
   same : SameTheory w w′ n S
-  same = record { size = done .size; records = same-record; behind = behind }
+  same = theory-behind (done .size) same-record behind
 
   -- ---- trail and bounds
 
@@ -106,14 +106,14 @@ module _ (lim : Limits) (w w′ : List ℕ) (len level : ℕ) (h : Whole lim w (
   sentences-kept = ap {A = ℕ} (λ x. x / 65536 % 65536) first
 
   header : HeaderOk lim w′ len level
-  header = header-stays lim w w′ len level (done .size) first (before .header)
+  header = header-stays lim w w′ len level (omega (arith, done .size, before .header .records)) first (before .header)
 
   whole : Whole lim w′ (counters len level)
   whole =
       joined-at lim w′ len level n S atoms-kept sentences-kept header
       (record {
         trail-ok = trail-stays w w′ n front len level few (before .trail-ok);
-        places = places-stay same lim (before .places);
+        places = places-stay same lim (omega (arith, done .size, before .places .room)) (before .places);
         sentences = right;
         reasons = λ i l. reason-stays w w′ n front S i same (omega (arith, few)) (before .reasons i l);
       })

@@ -1,6 +1,3 @@
-pub mod Frame
-pub mod Theories
-pub mod Trails
 pub mod Touching
 pub mod Renewing
 pub mod Passing

@@ -19,10 +19,11 @@ use Rattle.sentence.specs.declared.Extremes.{Extremes}
 use Rattle.sentence.specs.Sentence.{ExtremesAre}
 use Rattle.theory_check.specs.Theory.{SentenceOk}
 use Rattle.theory_check.proofs.Places.{placed}
-use Rattle.refresh.specs.Refresh.{Refreshable, Untouched, SameRecord, AsBefore, Renewed, SentenceRefreshed, Refreshed}
+use Rattle.whole.specs.Same.{SameRecord}
+use Rattle.whole.proofs.Frame.{same-record, record-through, SameEntries, entries-behind, rule-same, sentence-same}
+use Rattle.whole.proofs.Trails.{shows-stay}
+use Rattle.refresh.specs.Refresh.{Refreshable, Untouched, AsBefore, Renewed, SentenceRefreshed, Refreshed}
 use Rattle.refresh.specs.One.{Touchable, OneRefreshed}
-use Rattle.refresh.proofs.Frame.{same-record, record-through, rule-same, sentence-same}
-use Rattle.refresh.proofs.Trails.{shows-stay}
 
 -- the first s sentences are refreshed
 pub record Passed (w w′ : List ℕ) (n S : ℕ) (touched : List ℕ) (s : ℕ) : Type 0 where
@@ -68,16 +69,16 @@ module _ (lim : Limits) (w w′ : List ℕ) (n S : ℕ) (touched : List ℕ) (s 
   same : SameRecord w w′ b
   same = same-record w w′ b (λ i l h. p .rest i l) (ready .each s next .tag)
 
-  entries : (i : ℕ) → 4 * n + 8 * S ≤ i → word w′ i ≡ word w i
-  entries i h = p .rest i (omega arith)
+  entries : SameEntries w w′ n S b
+  entries = entries-behind w w′ n S b (p .size) (λ i h. p .rest i (omega arith))
 
   rule-stays : rule-at w′ n S b ≡ rule-at w n S b
-  rule-stays = rule-same w w′ n S b (p .size) same entries
+  rule-stays = rule-same w w′ n S b same entries
 
   pub next-touchable : Touchable lim w′ n S b touched
   next-touchable =
       let q = placed lim w n S s (ready .places) next in
-      let o : SentenceOk lim w′ n S b = sentence-same w w′ n S b (p .size) same entries lim (ready .each s next) in
+      let o : SentenceOk lim w′ n S b = sentence-same w w′ n S b same entries lim (ready .each s next) in
       let size = p .size in
       let before = same .before in
       let counts = same .counts in

@@ -12,7 +12,7 @@ use Rattle.area.specs.Layout.{word, tag-at}
 use Rattle.sentence.specs.Sentence.{ExtremesAre}
 use Rattle.refresh.specs.Refresh.{Untouched}
 use Rattle.refresh.specs.One.{OneRefreshed}
-use Rattle.refresh.proofs.Frame.{same-record}
+use Rattle.whole.proofs.Frame.{same-record}
 
 pub one-kept : (w : List ℕ) (n S b : ℕ) (touched : List ℕ) → tag-at w b < 32 → Untouched w n S b touched → OneRefreshed w w n S b touched
 one-kept w n S b touched low u = record {

@@ -18,13 +18,12 @@ use Rattle.area.specs.Layout.{word, atoms-of, sentences-of, level-of, rows-from
 use Rattle.area.specs.Whole.{Whole, Reasoned}
 use Rattle.trail_check.specs.Trail.{HeaderOk, TrailOk}
 use Rattle.trail_check.proofs.Shown.{shows}
-use Rattle.theory_check.specs.Theory.{PlacesOk}
 use Rattle.whole.specs.Parts.{counters, Matching, SentenceRight, AllRight}
-use Rattle.whole.proofs.Join.{Parts, parts, joined}
+use Rattle.whole.proofs.Join.{Parts, parts, joined-at}
+use Rattle.whole.proofs.Frame.{drop-same, same-record, record-through}
+use Rattle.whole.proofs.Theories.{SameTheory, theory-behind, rule-stays, sentence-stays, rules-stay, before-stays, places-stay}
+use Rattle.whole.proofs.Trails.{header-stays, rows-stay, trail-stays, reason-stays}
 use Rattle.refresh.specs.Refresh.{Refreshable, Untouched, AsBefore, Renewed, Refreshed}
-use Rattle.refresh.proofs.Frame.{drop-same, same-record, record-through}
-use Rattle.refresh.proofs.Theories.{SameTheory, rule-stays, sentence-stays, rules-stay, before-stays, places-stay}
-use Rattle.refresh.proofs.Trails.{header-stays, rows-stay, trail-stays, reason-stays}
 use Rattle.refresh.proofs.Matching.{untouched-matches, renewed-matches}
 
 -- w has a right trail in place of that of w₀; an atom that is not touched stands as it stood
@@ -51,19 +50,6 @@ pub record RenewedWhole (lim : Limits) (w₀ w w′ : List ℕ) (len level : ℕ
   pub size : length w′ ≡ length w₀
   pub rest : drop (need-of w₀) w′ ≡ drop (need-of w₀) w₀
 
--- the parts of the check but for word 0, at any numbers of atoms and sentences
-pub record PartsAt (lim : Limits) (w : List ℕ) (len level n S : ℕ) : Type 0 where
-  pub trail-ok : TrailOk w n len level
-  pub places : PlacesOk lim w n S
-  pub sentences : AllRight lim w n S len
-  pub reasons : (i : ℕ) → i < len → Reasoned w n S i
-
-pub joined-at : (lim : Limits) (w : List ℕ) (len level n S : ℕ) → atoms-of w ≡ n → sentences-of w ≡ S → HeaderOk lim w len level → PartsAt lim w len level n S → Whole lim w (counters len level)
-joined-at lim w len level n S e f h p =
-    let q : PartsAt lim w len level (atoms-of w) (sentences-of w) =
-    subst (λ (k : ℕ). PartsAt lim w len level k (sentences-of w)) (sym e) (subst (λ (k : ℕ). PartsAt lim w len level n k) (sym f) p) in
-    joined lim w len level (record { header = h; trail-ok = q .trail-ok; places = q .places; sentences = q .sentences; reasons = q .reasons })
-
 -- ---- a whole area whose words behind the trail stay: its theory is the same and can be refreshed
 
 module _ (lim : Limits) (w₀ w : List ℕ) (c₀ : Counters) (whole : Whole lim w₀ c₀) (size : length w ≡ length w₀)
@@ -72,11 +58,10 @@ module _ (lim : Limits) (w₀ w : List ℕ) (c₀ : Counters) (whole : Whole lim
   before = parts lim w₀ (c₀ .length-is) (c₀ .level-is) whole
 
   theory-kept : SameTheory w₀ w (atoms-of w₀) (sentences-of w₀)
-  theory-kept = record {
-    size = size;
-    records = λ s h. same-record w₀ w (record-at (atoms-of w₀) s) (λ i l u. rest i (omega arith)) (before .sentences s h .words .tag);
-    behind = λ i l. rest i (omega arith);
-  }
+  theory-kept =
+      theory-behind size
+      (λ s h. same-record w₀ w (record-at (atoms-of w₀) s) (λ i l u. rest i (omega arith)) (before .sentences s h .words .tag))
+      (λ i l. rest i (omega arith))
 
   pub refreshable : Fitting lim → (touched : List ℕ) → length touched ≡ 4097 → Refreshable lim w (atoms-of w₀) (sentences-of w₀) touched
   refreshable fitting touched table = record {
@@ -84,7 +69,7 @@ module _ (lim : Limits) (w₀ w : List ℕ) (c₀ : Counters) (whole : Whole lim
     atoms-low = whole .theory .atoms-low;
     atoms-high = whole .theory .atoms-high;
     sentences = whole .theory .sentences;
-    places = places-stay theory-kept lim (before .places);
+    places = places-stay theory-kept lim (omega (arith, before .places .room)) (before .places);
     each = λ s h. sentence-stays theory-kept lim s h (before .sentences s h .words);
     table = table;
   }
@@ -114,14 +99,19 @@ module _ (lim : Limits) (w₀ w w′ : List ℕ) (c₀ : Counters) (len level : 
   same-first = theory-kept lim w₀ w c₀ whole (changed .size) (changed .rest)
 
   same-next : SameTheory w w′ n S
-  same-next = record { size = done .size; records = λ s h. done .each s h .same; behind = done .behind }
+  same-next = theory-behind (done .size) (λ s h. done .each s h .same) (done .behind)
+
+  size : length w′ ≡ length w₀
+  size = done .size ∙ changed .size
+
+  behind : (i : ℕ) → 4 * n + 8 * S ≤ i → word w′ i ≡ word w₀ i
+  behind i l = done .behind i l ∙ changed .rest i (omega arith)
 
   same : SameTheory w₀ w′ n S
-  same = record {
-    size = done .size ∙ changed .size;
-    records = λ s h. record-through w₀ w w′ (record-at n s) (same-first .records s h) (done .each s h .same);
-    behind = λ i l. done .behind i l ∙ changed .rest i (omega arith);
-  }
+  same =
+      theory-behind size
+      (λ s h. record-through w₀ w w′ (record-at n s) (same-first .records s h) (done .each s h .same))
+      behind
 
   -- ---- each sentence matches the new trail
 
@@ -167,14 +157,14 @@ module _ (lim : Limits) (w₀ w w′ : List ℕ) (c₀ : Counters) (len level : 
   sentences-new = ap {A = ℕ} (λ x. x / 65536 % 65536) first ∙ changed .sentences
 
   header-new : HeaderOk lim w′ len level
-  header-new = header-stays lim w w′ len level (done .size) first (changed .header)
+  header-new = header-stays lim w w′ len level (omega (arith, done .size, changed .header .records)) first (changed .header)
 
   whole-new : Whole lim w′ (counters len level)
   whole-new =
       joined-at lim w′ len level n S atoms-new sentences-new header-new
       (record {
         trail-ok = trail-stays w w′ n (done .front) len level few (changed .trail-ok);
-        places = places-stay same lim (old-parts .places);
+        places = places-stay same lim (omega (arith, size, old-parts .places .room)) (old-parts .places);
         sentences = all-right;
         reasons = λ i l. reason-stays w w′ n (done .front) S i same-next (omega arith) (changed .reasons i l);
       })
@@ -193,6 +183,6 @@ module _ (lim : Limits) (w₀ w w′ : List ℕ) (c₀ : Counters) (len level : 
     rows = ap₂ {A = ℕ} {B = ℕ} (rows-from w′) atoms-new (header-new .length-is) ∙ rows-new;
     level-is = header-new .level-is;
     need = need-new;
-    size = same .size;
-    rest = drop-same w₀ w′ (need-of w₀) (same .size) (λ i l. same .behind i (omega arith));
+    size = size;
+    rest = drop-same w₀ w′ (need-of w₀) size (λ i l. behind i (omega arith));
   }

@@ -4,7 +4,7 @@ use mathlib.Core.Path.{_≡_}
 use mathlib.Core.Bool.{true}
 use mathlib.Core.Logic.{_⊎_}
 use mathlib.Core.List.{List}
-use Prim.Native.Nat.{ℕ, _+_, _*_, _%_, _<_, _≤_}
+use Prim.Native.Nat.{ℕ, _+_, _*_, _<_, _≤_}
 use lib.ListN.{length}
 use Rattle.types.specs.declared.Limits.{Limits}
 use Rattle.types.specs.Limits.{Fitting}
@@ -13,6 +13,7 @@ use Rattle.meaning.specs.Merge.{scope}
 use Rattle.area.specs.Layout.{word, record-at, tag-at, pending-at, least-at, greatest-at, rule-at}
 use Rattle.theory_check.specs.Theory.{PlacesOk, SentenceOk}
 use Rattle.sentence.specs.Sentence.{ExtremesAre}
+use Rattle.whole.specs.Same.{SameRecord}
 
 -- the stored sentences are whole; the table has a number for each atom, not 0 where its value changed
 pub record Refreshable (lim : Limits) (w : List ℕ) (n S : ℕ) (touched : List ℕ) : Type 0 where
@@ -27,16 +28,6 @@ pub record Refreshable (lim : Limits) (w : List ℕ) (n S : ℕ) (touched : List
 -- no atom of the sentence changed
 abbrev pub Untouched : List ℕ → ℕ → ℕ → ℕ → List ℕ → Type 0
 Untouched w n S b touched = Each (λ a. word touched a ≡ 0) (scope (rule-at w n S b))
-
--- the words of the sentence at b that say what it is, and not how it stands
-pub record SameRecord (w w′ : List ℕ) (b : ℕ) : Type 0 where
-  pub head : word w′ b ≡ word w b
-  pub tag : tag-at w′ b % 16 ≡ tag-at w b % 16
-  pub tag-low : tag-at w′ b < 32
-  pub bound : word w′ (b + 2) ≡ word w (b + 2)
-  pub constant : word w′ (b + 3) ≡ word w (b + 3)
-  pub before : word w′ (b + 6) ≡ word w (b + 6)
-  pub counts : word w′ (b + 7) ≡ word w (b + 7)
 
 pub record AsBefore (w w′ : List ℕ) (b : ℕ) : Type 0 where
   pub tag : tag-at w′ b ≡ tag-at w b

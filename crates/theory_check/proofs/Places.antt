@@ -31,18 +31,21 @@ pub record Placed (lim : Limits) (w : List ℕ) (n S s : ℕ) : Type 0 where
   pub merged : merged-at w (record-at n s) ≤ written-at w (record-at n s)
   pub room : entry-at w n S (record-at n s) + 2 * written-at w (record-at n s) ≤ length w
 
+-- the rooms of the sentences, one behind the other, end where those of all do
+pub room-below : (lim : Limits) (w : List ℕ) (n S s : ℕ) → PlacesOk lim w n S → s < S
+    → entry-at w n S (record-at n s) + 2 * written-at w (record-at n s) ≤ 4 * n + 8 * S + 2 * entries-before w n S
+room-below lim w n S s p l =
+    let e : s + 1 + (S - (s + 1)) ≡ S = omega arith in
+    omega (arith, p .each s l .place, one-more w n s, more-entries w n (s + 1) (S - (s + 1)), ap {A = ℕ} (entries-before w n) e)
+
 pub placed : (lim : Limits) (w : List ℕ) (n S s : ℕ) → PlacesOk lim w n S → s < S → Placed lim w n S s
 placed lim w n S s p l =
     let q = p .each s l in
-    let step = one-more w n s in
-    let e : s + 1 + (S - (s + 1)) ≡ S = omega arith in
-    let up = more-entries w n (s + 1) (S - (s + 1)) in
-    let same = ap {A = ℕ} (entries-before w n) e in
     record {
       own = omega (arith, p .room);
       few = q .few;
       merged = q .merged;
-      room = omega (arith, q .place, p .room);
+      room = omega (arith, room-below lim w n S s p l, p .room);
     }
 
 pub reason-inside : (lim : Limits) (w : List ℕ) (n S len r : ℕ) → Reasonable lim w n S len → ¬ (r ≡ 0) → r ≤ S → ScopeAsked w n S (4 * n + 8 * (r - 1))

@@ -19,8 +19,8 @@ use Rattle.whole.specs.Parts.{counters}
 use Rattle.whole.proofs.Join.{Parts, parts}
 use Rattle.trail_check.proofs.Rows.{atom-of}
 use Rattle.refresh.specs.Refresh.{Refreshable, Refreshed}
-use Rattle.refresh.proofs.Frame.{same-record}
-use Rattle.refresh.proofs.Theories.{SameTheory, rule-stays}
+use Rattle.whole.proofs.Frame.{same-record}
+use Rattle.whole.proofs.Theories.{SameTheory, theory-behind, rule-stays}
 use Rattle.refresh.proofs.WholeNext.{TrailChanged, RenewedWhole, refreshable, renewed-whole}
 use Rattle.step.specs.Step.{Standing, put-on, Puttable}
 use Rattle.step.specs.Stands.{Stands}
@@ -56,11 +56,10 @@ module _ (lim : Limits) (w : List ℕ) (len level literal mark : ℕ) (a : Advan
   -- ---- reasons
 
   same : SameTheory w w′ n S
-  same = record {
-    size = grown .size;
-    records = λ s h. same-record w w′ (record-at n s) (λ i l u. grown .behind i (omega arith)) (old .sentences s h .words .tag);
-    behind = λ i l. grown .behind i (omega arith);
-  }
+  same =
+      theory-behind (grown .size)
+      (λ s h. same-record w w′ (record-at n s) (λ i l u. grown .behind i (omega arith)) (old .sentences s h .words .tag))
+      (λ i l. grown .behind i (omega arith))
 
   -- the last row
   added : row-at w′ n len ≡ row (literal-of literal) level (mark / 65536 % 65536)

@@ -14,22 +14,12 @@ use Rattle.meaning.specs.Merge.{Rule}
 use Rattle.meaning.specs.Computed.{extreme}
 use Rattle.book.specs.Rows.{Row, trail}
 use Rattle.area.specs.Layout.{word, literal-at, place-at, rows-from, record-at, pending-at, before-at, written-at, entry-at, rule-at, entries-before}
-use Rattle.area.specs.Whole.{Reasoned}
-use Rattle.trail_check.specs.Trail.{TrailOk}
 use Rattle.trail_check.proofs.Rows.{atom-of, atom-low}
 use Rattle.trail_check.proofs.Same.{rows-same, same-trail}
-use Rattle.theory_check.specs.Theory.{PlacesOk}
 use Rattle.theory_check.proofs.Places.{placed}
 use Rattle.theory_check.proofs.Same.{SameWords, same-sentence}
-use Rattle.whole.specs.Parts.{AllRight}
+use Rattle.whole.proofs.Join.{Held}
 use Rattle.whole.proofs.DeterminedPlaces.{place-same}
-
--- the parts of the check behind word 0
-pub record Held (lim : Limits) (w : List ℕ) (n S len level : ℕ) : Type 0 where
-  pub trail-ok : TrailOk w n len level
-  pub places : PlacesOk lim w n S
-  pub sentences : AllRight lim w n S len
-  pub reasons : (i : ℕ) → i < len → Reasoned w n S i
 
 pub before-same : (w w′ : List ℕ) (n n′ k : ℕ) → ((s : ℕ) → s < k → written-at w (record-at n s) ≡ written-at w′ (record-at n′ s))
     → entries-before w n k ≡ entries-before w′ n′ k

@@ -109,3 +109,18 @@ module _ (lim : Limits) (w : List ℕ) (len level : ℕ) where
             };
         reasons = λ i l. h .reasons i (subst (λ k. i < k) (sym same) l);
       }
+
+-- ---- the parts behind word 0, at any numbers of atoms and sentences
+
+pub record Held (lim : Limits) (w : List ℕ) (n S len level : ℕ) : Type 0 where
+  pub trail-ok : TrailOk w n len level
+  pub places : PlacesOk lim w n S
+  pub sentences : AllRight lim w n S len
+  pub reasons : (i : ℕ) → i < len → Reasoned w n S i
+
+pub joined-at : (lim : Limits) (w : List ℕ) (len level n S : ℕ) → atoms-of w ≡ n → sentences-of w ≡ S → HeaderOk lim w len level → Held lim w n S len level
+    → Whole lim w (counters len level)
+joined-at lim w len level n S e f h p =
+    let q : Held lim w (atoms-of w) (sentences-of w) len level =
+    subst (λ (k : ℕ). Held lim w k (sentences-of w) len level) (sym e) (subst (λ (k : ℕ). Held lim w n k len level) (sym f) p) in
+    joined lim w len level (record { header = h; trail-ok = q .trail-ok; places = q .places; sentences = q .sentences; reasons = q .reasons })

@@ -7,3 +7,7 @@ pub mod GivesSilence
 pub mod Gives
 pub mod CheckMatching
 pub mod CheckSentences
+pub mod Frame
+pub mod Theories
+pub mod Trails
+pub mod Need

@@ -11,18 +11,18 @@ use Rattle.numbers.specs.Words.{literal-of}
 use Rattle.meaning.specs.Meaning.{atom}
 use Rattle.meaning.specs.Merge.{Rule, scope}
 use Rattle.book.specs.Rows.{Row}
-use Rattle.area.specs.Layout.{word, value-at, literal-at, mark-at, row-at, rows-from, value-word}
+use Rattle.area.specs.Layout.{word, atoms-of, sentences-of, value-at, literal-at, mark-at, row-at, rows-from, value-word}
 use Rattle.area.specs.Whole.{AtomsOnce, Rising, Reasoned}
 use Rattle.sentence.specs.Sentence.{Shows, standing-word}
 use Rattle.trail_check.specs.Trail.{HeaderOk, TrailOk}
-use Rattle.refresh.proofs.Theories.{SameTheory, rule-stays}
+use Rattle.whole.proofs.Theories.{SameTheory, rule-stays}
 
-pub header-stays : (lim : Limits) (w w′ : List ℕ) (len level : ℕ) → length w′ ≡ length w → word w′ 0 ≡ word w 0 → HeaderOk lim w len level → HeaderOk lim w′ len level
-header-stays lim w w′ len level size e h = record {
+pub header-stays : (lim : Limits) (w w′ : List ℕ) (len level : ℕ) → 4 * atoms-of w + 8 * sentences-of w ≤ length w′ → word w′ 0 ≡ word w 0 → HeaderOk lim w len level → HeaderOk lim w′ len level
+header-stays lim w w′ len level records e h = record {
   atoms-low = omega (arith, h .atoms-low);
   atoms-high = omega (arith, h .atoms-high);
   sentences = subst (λ (x : ℕ). x / 65536 % 65536 ≤ lim .sentences) (sym e) (h .sentences);
-  records = subst (λ (x : ℕ). 4 * (x % 65536) + 8 * (x / 65536 % 65536) ≤ length w′) (sym e) (omega (arith, h .records));
+  records = subst (λ (x : ℕ). 4 * (x % 65536) + 8 * (x / 65536 % 65536) ≤ length w′) (sym e) records;
   length-is = ap {A = ℕ} (λ x. x / 4294967296 % 65536) e ∙ h .length-is;
   level-is = ap {A = ℕ} (λ x. x / 281474976710656) e ∙ h .level-is;
   level-limit = subst (λ (x : ℕ). x / 281474976710656 ≤ lim .levels) (sym e) (h .level-limit);

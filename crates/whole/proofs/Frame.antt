@@ -6,33 +6,32 @@ use mathlib.Core.List.{List}
 use Prim.Native.Nat.{ℕ, _+_, _*_, _-_, _/_, _%_, _<_, _≤_, min}
 use native.Mathlib.Omega.{arith}
 use lib.ListN.{length, take, drop, length-take, length-drop}
-use lib.Seq.{slice, ext-getD, getD-take, getD-drop}
+use lib.Seq.{slice, ext-getD, getD-take, getD-drop, length-take-le}
 use lib.Dec.{T}
 use Rattle.types.specs.declared.Limits.{Limits}
 use Rattle.numbers.specs.Words.{unbias}
 use Rattle.meaning.specs.Meaning.{mixes}
 use Rattle.meaning.specs.Merge.{Rule}
-use Rattle.area.specs.Layout.{word, tag-at, merged-at, kind-of, side-of, constant-of, entries-of, entry-at, entry-words, rule-at}
+use Rattle.area.specs.Layout.{word, tag-at, written-at, merged-at, kind-of, side-of, constant-of, entries-of, entry-at, entry-words, rule-at}
 use Rattle.area.specs.Whole.{RuleWhole}
 use Rattle.theory_check.specs.Theory.{SentenceOk}
-use Rattle.refresh.specs.Refresh.{SameRecord}
+use Rattle.whole.specs.Same.{SameRecord}
 
--- ---- lists with the same words from k on
+-- ---- parts of two lists
 
-module _ (w w′ : List ℕ) (k : ℕ) (size : length w′ ≡ length w) (behind : (i : ℕ) → k ≤ i → word w′ i ≡ word w i) where
-  pub drop-same : drop k w′ ≡ drop k w
-  drop-same =
-      ext-getD 0 (drop k w′) (drop k w)
-      (length-drop k w′ ∙ ap {A = ℕ} (λ m. m - k) size ∙ sym (length-drop k w))
-      (λ i l. getD-drop k w′ i 0 ∙ behind (k + i) (omega arith) ∙ sym (getD-drop k w i 0))
+pub drop-same : (w w′ : List ℕ) (k : ℕ) → length w′ ≡ length w → ((i : ℕ) → k ≤ i → word w′ i ≡ word w i) → drop k w′ ≡ drop k w
+drop-same w w′ k size behind =
+    ext-getD 0 (drop k w′) (drop k w)
+    (length-drop k w′ ∙ ap {A = ℕ} (λ m. m - k) size ∙ sym (length-drop k w))
+    (λ i l. getD-drop k w′ i 0 ∙ behind (k + i) (omega arith) ∙ sym (getD-drop k w i 0))
 
-  pub slice-same : (f t : ℕ) → k ≤ f → slice f t w′ ≡ slice f t w
-  slice-same f t h =
-      ext-getD 0 (slice f t w′) (slice f t w)
-      (length-drop f (take t w′) ∙ ap {A = ℕ} (λ m. m - f) (length-take t w′ ∙ ap {A = ℕ} (min t) size ∙ sym (length-take t w)) ∙ sym (length-drop f (take t w)))
-      (λ i l.
-      let m : f + i < t = omega (arith, length-drop f (take t w′), length-take t w′) in
-      getD-drop f (take t w′) i 0 ∙ getD-take t w′ (f + i) 0 m ∙ behind (f + i) (omega arith) ∙ sym (getD-take t w (f + i) 0 m) ∙ sym (getD-drop f (take t w) i 0))
+slice-same : (w w′ : List ℕ) (f t : ℕ) → length (take t w′) ≡ length (take t w) → ((i : ℕ) → f ≤ i → i < t → word w′ i ≡ word w i) → slice f t w′ ≡ slice f t w
+slice-same w w′ f t size same =
+    ext-getD 0 (slice f t w′) (slice f t w)
+    (length-drop f (take t w′) ∙ ap {A = ℕ} (λ m. m - f) size ∙ sym (length-drop f (take t w)))
+    (λ i l.
+    let m : f + i < t = omega (arith, length-drop f (take t w′), length-take t w′) in
+    getD-drop f (take t w′) i 0 ∙ getD-take t w′ (f + i) 0 m ∙ same (f + i) (omega arith) m ∙ sym (getD-take t w (f + i) 0 m) ∙ sym (getD-drop f (take t w) i 0))
 
 -- ---- the sentence at b
 
@@ -62,6 +61,33 @@ record-through w w′ w″ b p q = record {
   counts = q .counts ∙ p .counts;
 }
 
+-- the entries of the sentence at b: those merged, and the words of their room
+pub record SameEntries (w w′ : List ℕ) (n S b : ℕ) : Type 0 where
+  pub merged : entry-words w′ (entry-at w n S b) (merged-at w b) ≡ entry-words w (entry-at w n S b) (merged-at w b)
+  pub room : (i : ℕ) → i < 2 * written-at w b → word w′ (entry-at w n S b + i) ≡ word w (entry-at w n S b + i)
+
+module _ (w w′ : List ℕ) (n S b : ℕ) where
+  -- where all words behind the records are the same
+  pub entries-behind : length w′ ≡ length w → ((i : ℕ) → 4 * n + 8 * S ≤ i → word w′ i ≡ word w i) → SameEntries w w′ n S b
+  entries-behind size behind =
+      let at = entry-at w n S b in
+      let t = at + 2 * merged-at w b in
+      record {
+        merged = slice-same w w′ at t (length-take t w′ ∙ ap {A = ℕ} (min t) size ∙ sym (length-take t w)) (λ i l u. behind i (omega arith));
+        room = λ i l. behind (at + i) (omega arith);
+      }
+
+  -- where the room is inside both lists
+  pub entries-inside : merged-at w b ≤ written-at w b → entry-at w n S b + 2 * written-at w b ≤ length w → entry-at w n S b + 2 * written-at w b ≤ length w′
+      → ((i : ℕ) → i < entry-at w n S b + 2 * written-at w b → word w′ i ≡ word w i) → SameEntries w w′ n S b
+  entries-inside few here there same =
+      let at = entry-at w n S b in
+      let t = at + 2 * merged-at w b in
+      record {
+        merged = slice-same w w′ at t (length-take-le t w′ (omega arith) ∙ sym (length-take-le t w (omega arith))) (λ i l u. same i (omega arith));
+        room = λ i l. same (at + i) (omega arith);
+      }
+
 -- the rule from its words
 abbrev rule-from : ℕ → ℕ → ℕ → ℕ → ℕ → ℕ → List ℕ → Rule
 rule-from head kind side bound constant counts words = record {
@@ -73,20 +99,20 @@ rule-from head kind side bound constant counts words = record {
   written = counts % 65536;
 }
 
-module _ (w w′ : List ℕ) (n S b : ℕ) (size : length w′ ≡ length w) (same : SameRecord w w′ b) (behind : (i : ℕ) → 4 * n + 8 * S ≤ i → word w′ i ≡ word w i) where
+module _ (w w′ : List ℕ) (n S b : ℕ) (same : SameRecord w w′ b) (entries : SameEntries w w′ n S b) where
   same-kind : tag-at w′ b % 8 ≡ tag-at w b % 8
   same-kind = omega (arith, same .tag)
 
   same-side : tag-at w′ b / 8 % 2 ≡ tag-at w b / 8 % 2
   same-side = omega (arith, same .tag)
 
-  pub same-start : entry-at w′ n S b ≡ entry-at w n S b
+  same-start : entry-at w′ n S b ≡ entry-at w n S b
   same-start = ap {A = ℕ} (λ x. 4 * n + 8 * S + 2 * x) (same .before)
 
   same-words : entry-words w′ (entry-at w′ n S b) (merged-at w′ b) ≡ entry-words w (entry-at w n S b) (merged-at w b)
   same-words =
       ap₂ {A = ℕ} {B = ℕ} (λ at c. entry-words w′ at (c / 65536)) same-start (same .counts)
-      ∙ slice-same w w′ (4 * n + 8 * S) size behind (entry-at w n S b) (entry-at w n S b + 2 * merged-at w b) (omega arith)
+      ∙ entries .merged
 
   pub rule-same : rule-at w′ n S b ≡ rule-at w n S b
   rule-same =
@@ -106,5 +132,5 @@ module _ (w w′ : List ℕ) (n S b : ℕ) (size : length w′ ≡ length w) (sa
     constant = λ m. same .constant ∙ o .constant (subst (λ (x : ℕ). T (not (mixes (kind-of x)))) same-kind m);
     unused = λ i l h.
         let c = same .counts in
-        behind (entry-at w′ n S b + i) (omega arith) ∙ ap {A = ℕ} (λ x. word w (x + i)) same-start ∙ o .unused i (omega arith) (omega arith);
+        ap {A = ℕ} (λ x. word w′ (x + i)) same-start ∙ entries .room i (omega arith) ∙ o .unused i (omega arith) (omega arith);
   }
