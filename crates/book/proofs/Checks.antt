@@ -9,7 +9,7 @@ use Rattle.meaning.specs.Merge.{turned-all, freed-all, put, collect, nonzero}
 use Rattle.meaning.specs.Computed.{gather, standing, extreme, first-due, says}
 use Rattle.meaning.proofs.Checks.{every, admissible}
 use Rattle.book.specs.Rows.{up-to, pick, causes, row-of, numbered, any, comes-from, in-order, flat}
-use Rattle.book.specs.Table.{speech, run, reply}
+use Rattle.book.specs.Table.{speech, run, trying, reply}
 use Rattle.book.specs.Book.{rules-of, judged-all, fresh, answers}
 use Rattle.book.specs.Examples.{Story, calls, expected, stories, Rightly, printings}
 
@@ -20,12 +20,12 @@ abbrev pub Computes : Story → Type 0
 Computes x = answers (x .limits) (judged-all (rules-of (x .sentences))) (fresh (x .atoms) (x .sentences)) (calls (x .turns)) ≡ expected (x .turns)
 
 pub stories-compute : Each Computes stories
-unfolding turned-all freed-all put collect nonzero gather standing extreme first-due says up-to pick causes row-of numbered any comes-from in-order flat speech run reply answers
-stories-compute = (refl, (refl, (refl, (refl, (refl, (refl, (refl, (refl, (refl, (refl, (refl, (refl, (refl, tt)))))))))))))
+unfolding turned-all freed-all put collect nonzero gather standing extreme first-due says up-to pick causes row-of numbered any comes-from in-order flat speech run trying reply answers
+stories-compute = (refl, (refl, (refl, (refl, (refl, (refl, (refl, (refl, (refl, (refl, (refl, (refl, (refl, (refl, (refl, (refl, tt))))))))))))))))
 
 pub stories-well-formed : T (every (λ x. every (well-formed (x .atoms)) (x .sentences)) stories)
 stories-well-formed = tt
 
 pub printings-right : Each Rightly printings
 printings-right =
-    ((refl, refl), ((refl, refl), ((refl, refl), ((refl, refl), ((refl, refl), ((refl, refl), ((refl, refl), ((refl, refl), tt))))))))
+    ((refl, refl), ((refl, refl), ((refl, refl), ((refl, refl), ((refl, refl), ((refl, refl), ((refl, refl), ((refl, refl), ((refl, refl), tt)))))))))

@@ -6,6 +6,7 @@ pub mod Sound
 pub mod Few
 pub mod Tests
 pub mod Keeps
+pub mod Making
 pub mod Same
 pub mod Run
 pub mod Blind

@@ -13,7 +13,7 @@ use Rattle.numbers.specs.Extended.{Extended, up, down}
 use Rattle.meaning.specs.Meaning.{Sentence, Consistent, Furthest, Conflict, Said, silent, conflict, forced, Says, Each}
 use Rattle.types.specs.declared.Limits.{Limits}
 use Rattle.book.specs.Rows.{trail, row-of, numbered}
-use Rattle.book.specs.Table.{Call, give, open-level, take-back, propagate, bounds, explain, explain-conflict, origin, list-trail, between, listed, Judged, State, nobody, propagated, result, no-sentence, stands, was-given, in-conflict, is-conflict, refusals, ended, effect, reply}
+use Rattle.book.specs.Table.{Call, give, open-level, take-back, propagate, search, bounds, explain, explain-conflict, origin, list-trail, between, listed, Judged, State, nobody, propagated, result, no-sentence, stands, was-given, in-conflict, is-conflict, refusals, ended, effect, reply}
 use Rattle.book.specs.Book.{JudgesAll, Book, Counters, book-state}
 use Rattle.meaning.proofs.Orders.{T-true}
 use Rattle.book.specs.Means.{IsNumber, Bounded, Explains, ExplainsConflict, OriginList}
@@ -36,6 +36,7 @@ effect-listed q (give l) ls e = let z : _≡_ {A = ℕ} 0 1 = cc in absurd (omeg
 effect-listed q open-level ls e = let z : _≡_ {A = ℕ} 0 1 = cc in absurd (omega arith)
 effect-listed q (take-back k) ls e = let z : _≡_ {A = ℕ} 0 1 = cc in absurd (omega arith)
 effect-listed q propagate ls e = absurd (ended-lists-nothing (propagated q .sentence) (length (propagated q .rows) - length (q .rows)) ls e)
+effect-listed q (search xs) ls e = let z : _≡_ {A = ℕ} 0 1 = cc in absurd (omega arith)
 effect-listed q (bounds k) ls e = let z : _≡_ {A = ℕ} 0 1 = cc in absurd (omega arith)
 effect-listed q (explain l room) ls e = cc
 effect-listed q (explain-conflict k room) ls e = cc

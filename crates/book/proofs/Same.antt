@@ -1,24 +1,25 @@
 -- The answers are determined: any two lists of judgements that are right by full assignments give the same outcome to every call.
 -- Where the trail is consistent, what a sentence says and its bounds are one thing, and the trail of a sound book is consistent.
 use mathlib.Core.Path.{_≡_, refl, sym, _∙_, ap, ap₂, subst}
-use mathlib.Core.Bool.{not, cond, _&&_}
+use mathlib.Core.Bool.{Bool, true, false, not, cond, _&&_}
 use mathlib.Core.List.{List, [], _∷_}
-use Prim.Native.Nat.{ℕ, zero, suc, _-_}
+use Prim.Native.Nat.{ℕ, zero, suc, _+_, _-_}
 use lib.ListN.{length}
 use lib.IntN.{ℤ}
-use lib.Dec.{leb, ltb}
+use lib.Dec.{T, leb, ltb}
 use Rattle.numbers.specs.Extended.{up, down}
-use Rattle.meaning.specs.Meaning.{Sentence, Consistent, Says, Each}
+use Rattle.meaning.specs.Meaning.{atom, Sentence, Consistent, Says, Each}
 use Rattle.types.specs.declared.Limits.{Limits}
-use Rattle.book.specs.Rows.{Row, row, trail, numbered, explanation, conflict-explanation, origins}
-use Rattle.book.specs.Table.{Call, give, open-level, take-back, propagate, bounds, explain, explain-conflict, origin, list-trail, Answer, between, listed, Judged, State, scopes, nobody, Speech, nothing, objects, derives, spoken, speech, Stop, run, result, Refusal, refusal, no-atom, stands, was-given, is-conflict, refusals, Outcome, unchanged, ended, effect, decided, reply}
+use Rattle.book.specs.Rows.{Row, row, trail, any, numbered, explanation, conflict-explanation, origins}
+use Rattle.book.specs.Table.{Call, give, open-level, take-back, propagate, search, bounds, explain, explain-conflict, origin, list-trail, Answer, between, listed, Judged, State, scopes, nobody, Speech, nothing, objects, derives, spoken, speech, Stop, run, propagated, result, Refusal, refusal, no-atom, on-trail, stands, was-given, is-conflict, refusals, Outcome, unchanged, ended, End, end, apart, turning, tried, trying, searching, search-ended, effect, decided, reply}
 use Rattle.book.specs.Book.{Judges, JudgesAll, Book, Asked, book-state, turn, after, answers, played}
 use Rattle.meaning.proofs.Says.{says-unique}
 use Rattle.meaning.proofs.Extremes.{furthest-unique}
 use Rattle.book.proofs.Number.{judges-length}
 use Rattle.book.proofs.Speech.{derived-of}
 use Rattle.book.proofs.Sound.{Scoped, Sound, consistent, derive-sound}
-use Rattle.book.proofs.Keeps.{next, SoundBook, turn-sound}
+use Rattle.book.proofs.Tests.{none-first, none-rest, Passed, decided-under}
+use Rattle.book.proofs.Keeps.{next, atom-told, state-at, propagated-sound, tried-sound, SoundBook, turn-sound}
 
 -- ---- two judgements of a sentence
 
@@ -83,6 +84,57 @@ module _ (n : ℕ) (ss : List Sentence) (js js′ : List Judged) (w : Each (Scop
       go (objects k) e ih = refl
       go (derives k l) e ih = ih k l (derive-sound n ss w v rs k l h (derived-of (trail rs) (consistent n ss v rs h) ss js m k l e))
 
+  -- ---- the search, turn by turn
+
+  module _ (x : Bool) (top : ℕ) where
+    abbrev here : List Judged → ℕ → List Row → State
+    here j v rs = state-at x n top j v rs
+
+    turning-same : (d g v : ℕ) (rs : List Row) (on : State → ℕ → End) → Sound n ss v rs
+        → ((rs′ : List Row) (e : ℕ) → Sound n ss v rs′ → on (here js v rs′) e ≡ on (here js′ v rs′) e)
+        → turning (here js v rs) d g on ≡ turning (here js′ v rs) d g on
+    turning-same d g v rs on h f =
+        ap (λ (z : Stop). by (z .sentence) (on (here js v (z .rows)) (d + (length (z .rows) - length rs))) z) (run-same v (suc n) rs h)
+        ∙ go (stop .sentence)
+      where
+        stop : Stop
+        stop = propagated (here js′ v rs)
+
+        by : ℕ → End → Stop → End
+        by k e z = apart k (end (z .sentence) (d + (length (z .rows) - length rs)) g (here js v (z .rows))) e
+
+        go : (k : ℕ) → by k (on (here js v (stop .rows)) (d + (length (stop .rows) - length rs))) stop
+            ≡ by k (on (here js′ v (stop .rows)) (d + (length (stop .rows) - length rs))) stop
+        go zero = f (stop .rows) (d + (length (stop .rows) - length rs)) (propagated-sound x n top ss js′ w m′ v rs h)
+        go (suc k) = refl
+
+    trying-same : (ls : List ℤ) (d g v : ℕ) (rs : List Row) → T (not (any (no-atom (here js v rs)) ls)) → Sound n ss v rs
+        → trying (here js v rs) d g ls ≡ trying (here js′ v rs) d g ls
+    unfolding trying
+    trying-same [] d g v rs t h = refl
+    trying-same (l ∷ ls) d g v rs t h =
+        go (on-trail (here js v rs) (atom l)) (leb top v) (λ o. o)
+        (trying-same ls d (suc g) v rs (none-rest (no-atom (here js v rs)) l ls t) h)
+        (λ rs′ e k. trying-same ls e (suc g) (suc v) rs′ (none-rest (no-atom (here js v rs)) l ls t) k)
+      where
+        tested : List Judged → Bool → Bool → End
+        tested j on high =
+            cond on (trying (here j v rs) d (suc g) ls)
+            (cond high (end 0 d g (here j v rs)) (turning (tried (here j v rs) l) d (suc g) (λ p e. trying p e (suc g) ls)))
+
+        go : (on high : Bool) → (T (not on) → T (not (on-trail (here js v rs) (atom l)))) → trying (here js v rs) d (suc g) ls ≡ trying (here js′ v rs) d (suc g) ls
+            → ((rs′ : List Row) (e : ℕ) → Sound n ss (suc v) rs′ → trying (here js (suc v) rs′) e (suc g) ls ≡ trying (here js′ (suc v) rs′) e (suc g) ls)
+            → tested js on high ≡ tested js′ on high
+        go true high o past on = past
+        go false true o past on = refl
+        go false false o past on =
+            turning-same d (suc g) (suc v) (row l (suc v) 0 ∷ rs) (λ p e. trying p e (suc g) ls)
+            (tried-sound x n top ss js w m v rs l (atom-told n l (none-first (no-atom (here js v rs)) l ls t)) (o tt) h) on
+
+    pub searching-same : (ls : List ℤ) (v : ℕ) (rs : List Row) → T (not (any (no-atom (here js v rs)) ls)) → Sound n ss v rs
+        → searching (here js v rs) ls ≡ searching (here js′ v rs) ls
+    searching-same ls v rs t h = turning-same 0 0 v rs (λ p e. trying p e 0 ls) h (λ rs′ e k. trying-same ls e 0 v rs′ t k)
+
 -- ---- one call
 
 module _ (lim : Limits) (b : Book) (js js′ : List Judged) (w : Each (Scoped (b .atoms)) (b .sentences))
@@ -105,6 +157,7 @@ module _ (lim : Limits) (b : Book) (js js′ : List Judged) (w : Each (Scoped (b
     result-same open-level = refl
     result-same (take-back k) = refl
     result-same propagate = refl
+    result-same (search ls) = refl
     result-same (bounds k) = refl
     result-same (explain l room) = ap (λ sc. explanation sc (b .rows) l) (scopes-same (b .sentences) js js′ m m′)
     result-same (explain-conflict k room) = ap (λ sc. conflict-explanation sc (b .rows) k) (scopes-same (b .sentences) js js′ m m′)
@@ -125,6 +178,7 @@ module _ (lim : Limits) (b : Book) (js js′ : List Judged) (w : Each (Scoped (b
     refusals-same open-level = refl
     refusals-same (take-back k) = refl
     refusals-same propagate = refl
+    refusals-same (search ls) = refl
     refusals-same (bounds k) = ap (λ n. unnumbered k n ∷ []) length-same
     refusals-same (explain l room) =
         ap (λ ls. refusal 10 (no-atom q l) ∷ refusal 12 (not (stands q l)) ∷ refusal 13 (was-given q l) ∷ short room ls ∷ []) (result-same (explain l room))
@@ -135,21 +189,23 @@ module _ (lim : Limits) (b : Book) (js js′ : List Judged) (w : Each (Scoped (b
     refusals-same (origin l room) = ap (λ ls. refusal 10 (no-atom q l) ∷ refusal 12 (not (stands q l)) ∷ short room ls ∷ []) (result-same (origin l room))
     refusals-same (list-trail room) = refl
 
-    effect-same : (x : Call) → effect q x ≡ effect q′ x
-    effect-same (give l) = refl
-    effect-same open-level = refl
-    effect-same (take-back k) = refl
-    effect-same propagate =
+    effect-same : (x : Call) → Passed (refusals q x) → effect q x ≡ effect q′ x
+    effect-same (give l) p = refl
+    effect-same open-level p = refl
+    effect-same (take-back k) p = refl
+    effect-same propagate p =
         ap {B = Outcome} (λ (z : Stop). record { answer = ended (z .sentence) (length (z .rows) - length (b .rows)); level = b .level; rows = z .rows })
         (run-same (b .atoms) (b .sentences) js js′ w m m′ (b .level) (suc (b .atoms)) (b .rows) h)
-    effect-same (bounds k) =
+    effect-same (search ls) p =
+        ap search-ended (searching-same (b .atoms) (b .sentences) js js′ w m m′ (q .broken) (q .levels) ls (b .level) (b .rows) (p .0) h)
+    effect-same (bounds k) p =
         ap₂ (λ v w. unchanged q (between v w))
         (numbered-same (λ j. j .least t) (least-same t c) k (b .sentences) js js′ m m′)
         (numbered-same (λ j. j .greatest t) (greatest-same t c) k (b .sentences) js js′ m m′)
-    effect-same (explain l room) = ap (λ ls. unchanged q (listed ls)) (result-same (explain l room))
-    effect-same (explain-conflict k room) = ap (λ ls. unchanged q (listed ls)) (result-same (explain-conflict k room))
-    effect-same (origin l room) = ap (λ ls. unchanged q (listed ls)) (result-same (origin l room))
-    effect-same (list-trail room) = refl
+    effect-same (explain l room) p = ap (λ ls. unchanged q (listed ls)) (result-same (explain l room))
+    effect-same (explain-conflict k room) p = ap (λ ls. unchanged q (listed ls)) (result-same (explain-conflict k room))
+    effect-same (origin l room) p = ap (λ ls. unchanged q (listed ls)) (result-same (origin l room))
+    effect-same (list-trail room) p = refl
 
     decided-same : (rs : List Refusal) (o : Outcome) → decided q rs o ≡ decided q′ rs o
     decided-same [] o = refl
@@ -158,7 +214,8 @@ module _ (lim : Limits) (b : Book) (js js′ : List Judged) (w : Each (Scoped (b
     pub turn-same : turn lim js b a ≡ turn lim js′ b a
     unfolding reply
     turn-same =
-        ap₂ (λ rs o. decided q (refusal 9 (q .broken) ∷ rs) o) (refusals-same (a .call)) (effect-same (a .call))
+        decided-under q (refusal 9 (q .broken) ∷ refusals q (a .call)) (effect q (a .call)) (effect q′ (a .call)) (λ p. effect-same (a .call) (p .1))
+        ∙ ap (λ rs. decided q (refusal 9 (q .broken) ∷ rs) (effect q′ (a .call))) (refusals-same (a .call))
         ∙ decided-same (refusal 9 (q .broken) ∷ refusals q′ (a .call)) (effect q′ (a .call))
 
 -- ---- a list of calls

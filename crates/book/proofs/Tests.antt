@@ -39,6 +39,24 @@ any-tells p (x ∷ xs) m a h = go (p x) a (λ e. subst (λ y. T (p y)) e h) (λ 
     go false (inl e) y ih = absurd (y e)
     go false (inr k) y ih = ih k
 
+-- none, and none further on
+module _ (p : ℤ → Bool) (x : ℤ) (xs : List ℤ) (t : T (not (any p (x ∷ xs)))) where
+  pub none-first : T (not (p x))
+  unfolding any
+  none-first = go (p x) t
+    where
+      go : (b : Bool) → T (not (cond b true (any p xs))) → T (not b)
+      go true t = absurd t
+      go false t = tt
+
+  pub none-rest : T (not (any p xs))
+  unfolding any
+  none-rest = go (p x) t
+    where
+      go : (b : Bool) → T (not (cond b true (any p xs))) → T (not (any p xs))
+      go true t = absurd t
+      go false t = t
+
 pub on-tells : (a : ℕ) (t : List ℤ) → On a t → T (any (λ l. eqb (atom l) a) t)
 unfolding any
 on-tells a [] o = o
@@ -71,6 +89,16 @@ decided-is P q (r ∷ rs) o u f = go (r .applies) (λ t. t) (λ g. decided-is P 
   where
     go : (b : Bool) → (T (not b) → T (not (r .applies))) → ((Passed rs → P o) → P (decided q rs o)) → P (cond b (unchanged q (refused (r .code) (r .value))) (decided q rs o))
     go true y ih = u (r .code) (r .value)
+    go false y ih = ih (λ p. f (y tt, p))
+
+-- two effects that are one where no refusal applies
+pub decided-under : (q : State) (rs : List Refusal) (o o′ : Outcome) → (Passed rs → o ≡ o′) → decided q rs o ≡ decided q rs o′
+decided-under q [] o o′ f = f tt
+decided-under q (r ∷ rs) o o′ f = go (r .applies) (λ t. t) (decided-under q rs o o′)
+  where
+    go : (b : Bool) → (T (not b) → T (not (r .applies))) → ((Passed rs → o ≡ o′) → decided q rs o ≡ decided q rs o′)
+        → cond b (unchanged q (refused (r .code) (r .value))) (decided q rs o) ≡ cond b (unchanged q (refused (r .code) (r .value))) (decided q rs o′)
+    go true y ih = refl
     go false y ih = ih (λ p. f (y tt, p))
 
 pub reply-is : (P : Outcome → Type 0) (q : State) (x : Call) → ((c n : ℕ) → P (unchanged q (refused c n))) → (Passed (refusals q x) → P (effect q x)) → P (reply q x)

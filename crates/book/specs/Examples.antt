@@ -1,4 +1,4 @@
--- Document 01's examples M1 to M12, and its refusals 9 to 18, as rows of one list: the sentences, the calls and the answers that must
+-- Document 01's examples M1 to M12, its refusals 9 to 18, and searches, as rows of one list: the sentences, the calls and the answers that must
 -- come out. proofs/Examples.antt claims of the list that the book gives these answers, whoever judges by full assignments.
 use mathlib.Core.Path.{_≡_}
 use mathlib.Core.List.{List, [], _∷_}
@@ -9,7 +9,7 @@ use Rattle.meaning.specs.Meaning.{sum, maximum, lower, upper, Sentence}
 use Rattle.meaning.specs.Examples.{minus, _on_, sentence, over-none, m1, m3, m4, m8, m9, m10}
 use Rattle.types.specs.declared.Limits.{Limits}
 use Rattle.types.specs.Limits.{base}
-use Rattle.book.specs.Table.{Call, give, open-level, take-back, propagate, bounds, explain, explain-conflict, origin, list-trail, Answer, refused, done, still, clash, between, listed, Paper, paper, list-after, Judged}
+use Rattle.book.specs.Table.{Call, give, open-level, take-back, propagate, search, bounds, explain, explain-conflict, origin, list-trail, Answer, refused, done, still, clash, searched, between, listed, Paper, paper, list-after, Judged}
 use Rattle.book.specs.Book.{JudgesAll, fresh, Asked, answers}
 
 pub record Turn : Type 0 where
@@ -127,9 +127,37 @@ refusing = record {
       ∷ ask 24 2 0 (list-trail 5) (refused 18 6) ∷ [];
 }
 
+-- ---- searches
+
+-- 10 for a literal further on in the list; then one passed over, and the highest level, where an open literal ends the search and those on
+-- the trail are still passed over
+abbrev pub search-levels : Story
+search-levels = record {
+  limits = record { atoms = 1024; sentences = 256; entries = 4096; each = 1024; levels = 1 };
+  atoms = 3;
+  sentences = m4 ∷ [];
+  turns =
+      ask 23 0 0 (search (pos 4 ∷ [])) (refused 9 0) ∷ ask 24 0 0 (search (pos 3 ∷ minus 2 ∷ minus 4 ∷ [])) (refused 10 0)
+      ∷ ask 24 0 0 (search (pos 3 ∷ pos 0 ∷ [])) (refused 10 0) ∷ ask 24 0 0 (search []) (searched 0 0 0)
+      ∷ ask 24 0 0 (search (pos 3 ∷ pos 2 ∷ minus 1 ∷ pos 3 ∷ [])) (searched 0 1 2)
+      ∷ ask 24 2 1 (list-trail 6) (listed (pos 3 ∷ pos 1 ∷ pos 0 ∷ minus 2 ∷ pos 1 ∷ pos 1 ∷ []))
+      ∷ ask 24 2 1 (search (minus 2 ∷ minus 3 ∷ [])) (searched 0 0 2) ∷ [];
+}
+
+-- 1 exactly if 2, and 1 exactly if not 2: the literal that leads to the conflict counts; a conflict of the first propagate comes before any
+abbrev pub search-conflict : Story
+search-conflict = story 2 (ring 1 2 ∷ sentence 1 sum upper (pos 0) (pos 1 on pos 2 ∷ []) ∷ [])
+    (ask 28 0 0 (search (minus 2 ∷ pos 1 ∷ [])) (searched 2 1 1) ∷ ask 28 2 1 (search (pos 1 ∷ [])) (searched 2 0 0) ∷ [])
+
+abbrev pub search-ring : Story
+search-ring = story 2 (ring 1 2 ∷ ring 2 1 ∷ [])
+    (ask 28 0 0 (search (pos 1 ∷ minus 2 ∷ [])) (searched 0 1 2)
+    ∷ ask 28 2 1 (list-trail 6) (listed (pos 1 ∷ pos 1 ∷ pos 0 ∷ pos 2 ∷ pos 1 ∷ pos 1 ∷ [])) ∷ [])
+
 abbrev pub stories : List Story
 stories =
-    story-1 ∷ story-2 ∷ story-3 ∷ story-4 ∷ story-5 ∷ story-6 ∷ story-7 ∷ story-8 ∷ story-9 ∷ story-10 ∷ story-11 ∷ story-12 ∷ refusing ∷ []
+    story-1 ∷ story-2 ∷ story-3 ∷ story-4 ∷ story-5 ∷ story-6 ∷ story-7 ∷ story-8 ∷ story-9 ∷ story-10 ∷ story-11 ∷ story-12 ∷ refusing
+    ∷ search-levels ∷ search-conflict ∷ search-ring ∷ []
 
 -- ---- the paper's numbers for each kind of answer, and the lent list after it
 
@@ -139,20 +167,25 @@ pub record Printed : Type 0 where
   pub before : List ℤ
   pub afterwards : List ℤ
 
-abbrev pub prints : Answer → (code value sentence least-mark : ℕ) → ℤ → ℕ → ℤ → List ℤ → List ℤ → Printed
-prints a c n k lm l gm g old new =
-    record { answer = a; printed = record { code = c; value = n; sentence = k; least-mark = lm; least = l; greatest-mark = gm; greatest = g }; before = old; afterwards = new }
+abbrev pub prints : Answer → (code value sentence gone least-mark : ℕ) → ℤ → ℕ → ℤ → List ℤ → List ℤ → Printed
+prints a c n k h lm l gm g old new = record {
+  answer = a;
+  printed = record { code = c; value = n; sentence = k; gone = h; least-mark = lm; least = l; greatest-mark = gm; greatest = g };
+  before = old;
+  afterwards = new;
+}
 
 abbrev pub printings : List Printed
 printings =
-    prints (refused 18 3) 18 3 0 0 (pos 0) 0 (pos 0) (pos 7 ∷ []) (pos 7 ∷ [])
-    ∷ prints done 0 0 0 0 (pos 0) 0 (pos 0) [] []
-    ∷ prints (still 2) 0 2 0 0 (pos 0) 0 (pos 0) [] []
-    ∷ prints (clash 4 1) 0 1 4 0 (pos 0) 0 (pos 0) [] []
-    ∷ prints (between (at (minus 5)) (at (pos 5))) 0 0 0 0 (minus 5) 0 (pos 5) [] []
-    ∷ prints (between below (at (pos 9))) 0 0 0 1 (pos 0) 0 (pos 9) [] []
-    ∷ prints (between (at (pos 8)) above) 0 0 0 0 (pos 8) 2 (pos 0) [] []
-    ∷ prints (listed (minus 2 ∷ minus 3 ∷ [])) 0 2 0 0 (pos 0) 0 (pos 0) (pos 7 ∷ pos 8 ∷ pos 9 ∷ []) (minus 2 ∷ minus 3 ∷ pos 9 ∷ [])
+    prints (refused 18 3) 18 3 0 0 0 (pos 0) 0 (pos 0) (pos 7 ∷ []) (pos 7 ∷ [])
+    ∷ prints done 0 0 0 0 0 (pos 0) 0 (pos 0) [] []
+    ∷ prints (still 2) 0 2 0 0 0 (pos 0) 0 (pos 0) [] []
+    ∷ prints (clash 4 1) 0 1 4 0 0 (pos 0) 0 (pos 0) [] []
+    ∷ prints (searched 4 1 2) 0 1 4 2 0 (pos 0) 0 (pos 0) [] []
+    ∷ prints (between (at (minus 5)) (at (pos 5))) 0 0 0 0 0 (minus 5) 0 (pos 5) [] []
+    ∷ prints (between below (at (pos 9))) 0 0 0 0 1 (pos 0) 0 (pos 9) [] []
+    ∷ prints (between (at (pos 8)) above) 0 0 0 0 0 (pos 8) 2 (pos 0) [] []
+    ∷ prints (listed (minus 2 ∷ minus 3 ∷ [])) 0 2 0 0 0 (pos 0) 0 (pos 0) (pos 7 ∷ pos 8 ∷ pos 9 ∷ []) (minus 2 ∷ minus 3 ∷ pos 9 ∷ [])
     ∷ []
 
 abbrev pub Rightly : Printed → Type 0

@@ -3,3 +3,4 @@ pub mod Table
 pub mod Book
 pub mod Examples
 pub mod Means
+pub mod Made

@@ -2,7 +2,7 @@
 -- is not refused. It is a function of a `State`, what the table looks at: the book is such a state, and so is a work area.
 use mathlib.Core.Bool.{Bool, true, false, not, cond, _&&_}
 use mathlib.Core.List.{List, [], _∷_, _++_}
-use Prim.Native.Nat.{ℕ, zero, suc, _-_}
+use Prim.Native.Nat.{ℕ, zero, suc, _+_, _-_}
 use lib.ListN.{length, drop}
 use lib.IntN.{ℤ, pos}
 use lib.Dec.{eqb, leb, ltb}
@@ -18,18 +18,21 @@ pub data Call : Type 0 where
   open-level : Call
   take-back : ℕ → Call
   propagate : Call
+  search : List ℤ → Call
   bounds : ℕ → Call
   explain : ℤ → ℕ → Call
   explain-conflict : ℕ → ℕ → Call
   origin : ℤ → ℕ → Call
   list-trail : ℕ → Call
 
--- `still` and `clash` carry the number of literals put on; `clash` the sentence in conflict before it
+-- `still` and `clash` carry the number of literals put on; `clash` the sentence in conflict before it. `searched` has the sentence in
+-- conflict, 0 where there is none, the literals derived over all turns, and how many literals of its list it went through
 pub data Answer : Type 0 where
   refused : (code value : ℕ) → Answer
   done : Answer
   still : ℕ → Answer
   clash : ℕ → ℕ → Answer
+  searched : (sentence derived gone : ℕ) → Answer
   between : Extended → Extended → Answer
   listed : List ℤ → Answer
 
@@ -53,21 +56,25 @@ pub record Paper : Type 0 where
   pub value : ℕ
   -- the sentence in conflict, 0 where there is none
   pub sentence : ℕ
+  -- of a search, the literals of its list gone through
+  pub gone : ℕ
   pub least-mark : ℕ
   pub least : ℤ
   pub greatest-mark : ℕ
   pub greatest : ℤ
 
-abbrev pub numbers : (code value sentence : ℕ) → Extended → Extended → Paper
-numbers c n k v w = record { code = c; value = n; sentence = k; least-mark = mark v; least = number v; greatest-mark = mark w; greatest = number w }
+abbrev pub numbers : (code value sentence gone : ℕ) → Extended → Extended → Paper
+numbers c n k g v w =
+    record { code = c; value = n; sentence = k; gone = g; least-mark = mark v; least = number v; greatest-mark = mark w; greatest = number w }
 
 abbrev pub paper : Answer → Paper
-paper (refused c n) = numbers c n 0 (at (pos 0)) (at (pos 0))
-paper done = numbers 0 0 0 (at (pos 0)) (at (pos 0))
-paper (still n) = numbers 0 n 0 (at (pos 0)) (at (pos 0))
-paper (clash k n) = numbers 0 n k (at (pos 0)) (at (pos 0))
-paper (between v w) = numbers 0 0 0 v w
-paper (listed ls) = numbers 0 (length ls) 0 (at (pos 0)) (at (pos 0))
+paper (refused c n) = numbers c n 0 0 (at (pos 0)) (at (pos 0))
+paper done = numbers 0 0 0 0 (at (pos 0)) (at (pos 0))
+paper (still n) = numbers 0 n 0 0 (at (pos 0)) (at (pos 0))
+paper (clash k n) = numbers 0 n k 0 (at (pos 0)) (at (pos 0))
+paper (searched k n g) = numbers 0 n k g (at (pos 0)) (at (pos 0))
+paper (between v w) = numbers 0 0 0 0 v w
+paper (listed ls) = numbers 0 (length ls) 0 0 (at (pos 0)) (at (pos 0))
 
 -- the lent result list after the call: words past the result keep their contents
 abbrev pub list-after : Answer → List ℤ → List ℤ
@@ -75,6 +82,7 @@ list-after (refused c n) old = old
 list-after done old = old
 list-after (still n) old = old
 list-after (clash k n) old = old
+list-after (searched k n g) old = old
 list-after (between v w) old = old
 list-after (listed ls) old = ls ++ drop (length ls) old
 
@@ -142,6 +150,7 @@ result q (give l) = []
 result q open-level = []
 result q (take-back k) = []
 result q propagate = []
+result q (search ls) = []
 result q (bounds k) = []
 result q (explain l room) = explanation (scopes (q .sentences)) (q .rows) l
 result q (explain-conflict k room) = conflict-explanation (scopes (q .sentences)) (q .rows) k
@@ -191,6 +200,7 @@ refusals q (give l) = refusal 10 (no-atom q l) ∷ refusal 11 (on-trail q (atom 
 refusals q open-level = refusal 14 (leb (q .levels) (q .level)) ∷ []
 refusals q (take-back k) = refusal 15 (ltb (q .level) k) ∷ []
 refusals q propagate = []
+refusals q (search ls) = refusal 10 (any (no-atom q) ls) ∷ []
 refusals q (bounds k) = refusal 16 (no-sentence q k) ∷ []
 refusals q (explain l room) =
     refusal 10 (no-atom q l) ∷ refusal 12 (not (stands q l)) ∷ refusal 13 (was-given q l) ∷ too-short q (explain l room) room ∷ []
@@ -214,12 +224,72 @@ abbrev pub ended : ℕ → ℕ → Answer
 ended zero n = still n
 ended (suc k) n = clash (suc k) n
 
+abbrev pub giving : State → ℤ → Outcome
+giving q l = record { answer = done; level = q .level; rows = row l (q .level) 0 ∷ q .rows }
+
+abbrev pub opening : State → Outcome
+opening q = record { answer = done; level = suc (q .level); rows = q .rows }
+
+-- the number of literals that propagate puts on
+abbrev pub put-on : State → ℕ
+put-on q = length (propagated q .rows) - length (q .rows)
+
+abbrev pub propagating : State → Outcome
+propagating q = record { answer = ended (propagated q .sentence) (put-on q); level = q .level; rows = propagated q .rows }
+
+-- the state after an outcome
+abbrev pub following : State → Outcome → State
+following q o = record { broken = q .broken; atoms = q .atoms; levels = q .levels; sentences = q .sentences; level = o .level; rows = o .rows }
+
+-- ---- search: propagate; from still literal by literal of a list: one whose atom is on the trail is passed over, an open one is tried at a
+-- level of its own, and propagate follows. A conflict ends it, the highest level does before an open literal, and the list's end
+
+-- how it ended: the sentence in conflict or 0, the literals derived, those of the list gone through, and the level and rows
+pub record End : Type 0 where
+  pub sentence : ℕ
+  pub derived : ℕ
+  pub gone : ℕ
+  pub level : ℕ
+  pub rows : List Row
+
+abbrev pub end : ℕ → (derived gone : ℕ) → State → End
+end k d g q = record { sentence = k; derived = d; gone = g; level = q .level; rows = q .rows }
+
+-- propagate's answer is taken apart, by its sentence: it goes on only from still
+abbrev pub apart : ℕ → End → End → End
+apart zero in-conflict on = on
+apart (suc k) in-conflict on = in-conflict
+
+-- propagate, with so many literals derived and gone through before it, and what comes after it at still
+abbrev pub turning : State → (derived gone : ℕ) → (State → ℕ → End) → End
+turning q d g on =
+    apart (propagated q .sentence) (end (propagated q .sentence) (d + put-on q) g (following q (propagating q))) (on (following q (propagating q)) (d + put-on q))
+
+-- a literal given at a level of its own
+abbrev pub tried : State → ℤ → State
+tried q l = following (following q (opening q)) (giving (following q (opening q)) l)
+
+-- from still
+unfoldable pub trying : State → (derived gone : ℕ) → List ℤ → End
+trying q d g [] = end 0 d g q
+trying q d g (l ∷ ls) =
+    cond (on-trail q (atom l)) (trying q d (suc g) ls)
+    (cond (leb (q .levels) (q .level)) (end 0 d g q) (turning (tried q l) d (suc g) (λ p n. trying p n (suc g) ls)))
+
+abbrev pub searching : State → List ℤ → End
+searching q ls = turning q 0 0 (λ p n. trying p n 0 ls)
+
+abbrev pub search-ended : End → Outcome
+search-ended e = record { answer = searched (e .sentence) (e .derived) (e .gone); level = e .level; rows = e .rows }
+
+-- ---- each call's effect
+
 abbrev pub effect : State → Call → Outcome
-effect q (give l) = record { answer = done; level = q .level; rows = row l (q .level) 0 ∷ q .rows }
-effect q open-level = record { answer = done; level = suc (q .level); rows = q .rows }
+effect q (give l) = giving q l
+effect q open-level = opening q
 effect q (take-back k) = record { answer = done; level = k; rows = up-to k (q .rows) }
-effect q propagate =
-    record { answer = ended (propagated q .sentence) (length (propagated q .rows) - length (q .rows)); level = q .level; rows = propagated q .rows }
+effect q propagate = propagating q
+effect q (search ls) = search-ended (searching q ls)
 effect q (bounds k) =
     unchanged q (between (numbered nobody k (q .sentences) .least (trail (q .rows))) (numbered nobody k (q .sentences) .greatest (trail (q .rows))))
 effect q (explain l room) = unchanged q (listed (result q (explain l room)))
@@ -235,10 +305,6 @@ decided q (r ∷ rs) o = cond (r .applies) (unchanged q (refused (r .code) (r .v
 unfoldable pub reply : State → Call → Outcome
 reply q x = decided q (refusal 9 (q .broken) ∷ refusals q x) (effect q x)
 
--- the state after an outcome
-abbrev pub following : State → Outcome → State
-following q o = record { broken = q .broken; atoms = q .atoms; levels = q .levels; sentences = q .sentences; level = o .level; rows = o .rows }
-
--- and after a call
+-- the state after a call
 abbrev pub called : State → Call → State
 called q x = following q (reply q x)

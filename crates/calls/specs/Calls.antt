@@ -9,7 +9,7 @@ use lib.IntN.{ℤ, pos}
 use lib.Dec.{T, eqb}
 use Rattle.types.specs.declared.Limits.{Limits}
 use Rattle.types.specs.declared.Counters as t
-use Rattle.book.specs.Table.{Call, give, open-level, take-back, propagate, bounds, explain, explain-conflict, origin, list-trail, Answer, refused, done, still, clash, between, listed, Paper, paper, list-after, State, Outcome, reply}
+use Rattle.book.specs.Table.{Call, give, open-level, take-back, propagate, search, bounds, explain, explain-conflict, origin, list-trail, Answer, refused, done, still, clash, searched, between, listed, Paper, paper, list-after, State, Outcome, reply}
 use Rattle.book.specs.Book.{Counters, judged-all}
 use Rattle.area.specs.Layout.{atoms-of, level-of, rows-of, theory-of, need-of}
 use Rattle.area.specs.Whole.{Whole}
@@ -29,14 +29,14 @@ area-state lim w =
 -- ---- what an answer of the code says on the paper
 
 abbrev pub done-paper : Done → Paper
-done-paper r = record { code = r .code; value = 0; sentence = 0; least-mark = 0; least = pos 0; greatest-mark = 0; greatest = pos 0 }
+done-paper r = record { code = r .code; value = 0; sentence = 0; gone = 0; least-mark = 0; least = pos 0; greatest-mark = 0; greatest = pos 0 }
 
 abbrev pub bounds-paper : Bounds → Paper
 bounds-paper r =
-    record { code = r .code; value = 0; sentence = 0; least-mark = r .«least_mark»; least = r .least; greatest-mark = r .«greatest_mark»; greatest = r .greatest }
+    record { code = r .code; value = 0; sentence = 0; gone = 0; least-mark = r .«least_mark»; least = r .least; greatest-mark = r .«greatest_mark»; greatest = r .greatest }
 
 abbrev pub listed-paper : Listed → Paper
-listed-paper r = record { code = r .code; value = r .value; sentence = 0; least-mark = 0; least = pos 0; greatest-mark = 0; greatest = pos 0 }
+listed-paper r = record { code = r .code; value = r .value; sentence = 0; gone = 0; least-mark = 0; least = pos 0; greatest-mark = 0; greatest = pos 0 }
 
 -- ---- what the call answers: 9 where the area is not whole, and otherwise the table's answer
 
@@ -51,6 +51,7 @@ is-refusal (refused c n) = true
 is-refusal done = false
 is-refusal (still n) = false
 is-refusal (clash k n) = false
+is-refusal (searched k n g) = false
 is-refusal (between v w) = false
 is-refusal (listed ls) = false
 
@@ -60,6 +61,7 @@ idle q (give l) = false
 idle q open-level = false
 idle q (take-back k) = eqb k (q .level)
 idle q propagate = false
+idle q (search ls) = false
 idle q (bounds k) = true
 idle q (explain l room) = true
 idle q (explain-conflict k room) = true

@@ -30,6 +30,6 @@ module _ (lim : Limits) (w : List ℕ) (x : Call) (old : List ℤ) where
   pub listing-done : (ls new : List ℤ) (m : ℕ) → reply (area-state lim w) x .answer ≡ listed ls → m ≡ length ls → new ≡ ls ++ drop m old
       → Listing lim w x old new (record { code = 0; value = m })
   listing-done ls new m e size d = record {
-    answer = ap {A = ℕ} (λ k. numbers 0 k 0 (at (pos 0)) (at (pos 0))) size ∙ ap {A = Answer} paper (sym e);
+    answer = ap {A = ℕ} (λ k. numbers 0 k 0 0 (at (pos 0)) (at (pos 0))) size ∙ ap {A = Answer} paper (sym e);
     written = d ∙ ap {A = ℕ} (λ k. ls ++ drop k old) size ∙ ap {A = Answer} (λ a. list-after a old) (sym e);
   }

@@ -61,7 +61,7 @@ sevens (suc k) = pos 7 ∷ sevens k
 
 -- two bounds, both numbers
 abbrev pub spans : (least greatest : ℕ) → Paper
-spans v w = record { code = 0; value = 0; sentence = 0; least-mark = 0; least = pos v; greatest-mark = 0; greatest = pos w }
+spans v w = record { code = 0; value = 0; sentence = 0; gone = 0; least-mark = 0; least = pos v; greatest-mark = 0; greatest = pos w }
 
 -- ---- M11, and M5's conflict on its way: 3 atoms, on 25 words, one more than the need
 

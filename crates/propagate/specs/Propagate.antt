@@ -16,7 +16,7 @@ use Rattle.propagate.specs.declared.Propagated.the-variants.{Broken, Sti
 
 abbrev pub plain : ℕ → ℕ → ℕ → Paper
 plain code value sentence =
-    record { code = code; value = value; sentence = sentence; least-mark = 0; least = pos 0; greatest-mark = 0; greatest = pos 0 }
+    record { code = code; value = value; sentence = sentence; gone = 0; least-mark = 0; least = pos 0; greatest-mark = 0; greatest = pos 0 }
 
 abbrev pub propagated-paper : Propagated → Paper
 propagated-paper (Broken c) = plain 9 0 0

@@ -42,6 +42,6 @@ module _ (lim : Limits) (w : List ℕ) (old : List ℤ) where
       let e = trail-listed lim w (length old) h in
       let size : 3 * length-of w ≡ length (flat (rows-of w)) = sym (rows-size w (atoms-of w) (length-of w)) in
       record {
-        answer = ap {A = ℕ} (λ m. numbers 0 m 0 (at (pos 0)) (at (pos 0))) size ∙ ap {A = Answer} paper (sym e);
+        answer = ap {A = ℕ} (λ m. numbers 0 m 0 0 (at (pos 0)) (at (pos 0))) size ∙ ap {A = Answer} paper (sym e);
         written = d ∙ ap {A = ℕ} (λ m. flat (rows-of w) ++ drop m old) size ∙ ap {A = Answer} (λ a. list-after a old) (sym e);
       }

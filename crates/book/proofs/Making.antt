@@ -1,0 +1,122 @@
+-- A search that is not refused is the calls that it makes: none of them is refused, as a level is opened only below the highest and only an
+-- open literal of an atom is given, and level and rows after them are the search's.
+use mathlib.Core.Path.{_≡_, refl, sym, ap, ap₂, _∙_, subst}
+use mathlib.Core.Bool.{Bool, true, false, not, cond}
+use mathlib.Core.List.{List, [], _∷_}
+use Prim.Native.Nat.{ℕ, zero, suc, _+_}
+use native.Mathlib.Omega.{arith}
+use lib.IntN.{ℤ}
+use lib.Dec.{T, leb}
+use Rattle.meaning.specs.Meaning.{atom}
+use Rattle.book.specs.Rows.{Row, row, any}
+use Rattle.book.specs.Table.{Call, give, open-level, propagate, search, refused, paper, Judged, State, propagated, no-atom, on-trail, Outcome, unchanged, ended, giving, opening, put-on, propagating, following, End, end, apart, turning, tried, trying, searching, search-ended, effect, reply, called}
+use Rattle.book.specs.Made.{at-still, propagate-then, made-next, made, called-all, Taken, AllTaken, Makes}
+use Rattle.book.proofs.Tests.{none-first, none-rest}
+use Rattle.book.proofs.Keeps.{state-at}
+
+-- the calls are taken, and lead from one state to the other
+abbrev Leads : State → List Call → State → Type 0
+Leads q xs p = AllTaken q xs × (called-all q xs ≡ p)
+
+-- one call more in front, with this reply
+leads-on : (q : State) (x : Call) (o : Outcome) (xs : List Call) (p : State) → reply q x ≡ o → paper (o .answer) .code ≡ 0 → Leads (following q o) xs p → Leads q (x ∷ xs) p
+leads-on q x o xs p e t h =
+    let back = subst (λ (y : Outcome). AllTaken (following q y) xs × (called-all (following q y) xs ≡ p)) (sym e) h in
+    ((ap (λ (y : Outcome). paper (y .answer) .code) e ∙ t, back .0), back .1)
+
+ended-taken : (k n : ℕ) → paper (ended k n) .code ≡ 0
+ended-taken zero n = refl
+ended-taken (suc k) n = refl
+
+not-true : (b : Bool) → T (not b) → b ≡ false
+not-true true t = absurd t
+not-true false t = refl
+
+module _ (n top : ℕ) (js : List Judged) where
+  abbrev here : ℕ → List Row → State
+  here v rs = state-at false n top js v rs
+
+  abbrev ended-at : End → State
+  ended-at e = here (e .level) (e .rows)
+
+  -- ---- each call's reply
+
+  open-taken : (v : ℕ) (rs : List Row) → leb top v ≡ false → reply (here v rs) open-level ≡ opening (here v rs)
+  unfolding reply
+  open-taken v rs e = ap {A = Bool} (λ b. cond b (unchanged (here v rs) (refused 14 0)) (opening (here v rs))) e
+
+  give-taken : (v : ℕ) (rs : List Row) (l : ℤ) → no-atom (here v rs) l ≡ false → on-trail (here v rs) (atom l) ≡ false → reply (here v rs) (give l) ≡ giving (here v rs) l
+  unfolding reply
+  give-taken v rs l e f =
+      ap₂ {A = Bool} {B = Bool} (λ a b. cond a (unchanged (here v rs) (refused 10 0)) (cond b (unchanged (here v rs) (refused 11 0)) (giving (here v rs) l))) e f
+
+  propagate-taken : (v : ℕ) (rs : List Row) → reply (here v rs) propagate ≡ propagating (here v rs)
+  unfolding reply
+  propagate-taken v rs = refl
+
+  -- ---- a turn
+
+  turning-made : (d g v : ℕ) (rs : List Row) (on : State → ℕ → End) (calls : State → List Call)
+      → ((rs′ : List Row) (e : ℕ) → Leads (here v rs′) (calls (here v rs′)) (ended-at (on (here v rs′) e)))
+      → Leads (here v rs) (propagate-then (here v rs) calls) (ended-at (turning (here v rs) d g on))
+  turning-made d g v rs on calls f =
+      leads-on q propagate (propagating q) (at-still (propagated q .sentence) (calls (following q (propagating q)))) (ended-at (turning q d g on))
+      (propagate-taken v rs) (ended-taken (propagated q .sentence) (put-on q)) (go (propagated q .sentence))
+    where
+      q : State
+      q = here v rs
+
+      go : (k : ℕ) → Leads (following q (propagating q)) (at-still k (calls (following q (propagating q)))) (ended-at (apart k (end (propagated q .sentence) (d + put-on q) g (following q (propagating q))) (on (following q (propagating q)) (d + put-on q))))
+      go zero = f (propagated q .rows) (d + put-on q)
+      go (suc k) = (tt, refl)
+
+  -- ---- literal by literal
+
+  trying-made : (ls : List ℤ) (d g v : ℕ) (rs : List Row) → T (not (any (no-atom (here v rs)) ls))
+      → Leads (here v rs) (made-next (here v rs) ls) (ended-at (trying (here v rs) d g ls))
+  unfolding trying made-next
+  trying-made [] d g v rs t = (tt, refl)
+  trying-made (l ∷ ls) d g v rs t =
+      go (on-trail (here v rs) (atom l)) (leb top v) refl refl
+      (trying-made ls d (suc g) v rs (none-rest (no-atom (here v rs)) l ls t))
+      (λ rs′ e. trying-made ls e (suc g) (suc v) rs′ (none-rest (no-atom (here v rs)) l ls t))
+    where
+      go : (on high : Bool) → on-trail (here v rs) (atom l) ≡ on → leb top v ≡ high
+          → Leads (here v rs) (made-next (here v rs) ls) (ended-at (trying (here v rs) d (suc g) ls))
+          → ((rs′ : List Row) (e : ℕ) → Leads (here (suc v) rs′) (made-next (here (suc v) rs′) ls) (ended-at (trying (here (suc v) rs′) e (suc g) ls)))
+          → Leads (here v rs)
+          (cond on (made-next (here v rs) ls) (cond high [] (open-level ∷ give l ∷ propagate-then (tried (here v rs) l) (λ p. made-next p ls))))
+          (ended-at (cond on (trying (here v rs) d (suc g) ls) (cond high (end 0 d g (here v rs)) (turning (tried (here v rs) l) d (suc g) (λ p e. trying p e (suc g) ls)))))
+      go true high e f past on = past
+      go false true e f past on = (tt, refl)
+      go false false e f past on =
+          let goal = ended-at (turning (tried (here v rs) l) d (suc g) (λ p e. trying p e (suc g) ls)) in
+          let turn = propagate-then (tried (here v rs) l) (λ p. made-next p ls) in
+          leads-on (here v rs) open-level (opening (here v rs)) (give l ∷ turn) goal (open-taken v rs f) refl
+          (leads-on (here (suc v) rs) (give l) (giving (here (suc v) rs) l) turn goal
+          (give-taken (suc v) rs l (not-true (no-atom (here v rs) l) (none-first (no-atom (here v rs)) l ls t)) e) refl
+          (turning-made d (suc g) (suc v) (row l (suc v) 0 ∷ rs) (λ p e. trying p e (suc g) ls) (λ p. made-next p ls) on))
+
+  -- ---- the search
+
+  makes : (ls : List ℤ) (v : ℕ) (rs : List Row) → any (no-atom (here v rs)) ls ≡ false → Makes (here v rs) ls
+  unfolding reply
+  makes ls v rs e =
+      let t : T (not (any (no-atom (here v rs)) ls)) = subst (λ (b : Bool). T (not b)) (sym e) tt in
+      let h = turning-made 0 0 v rs (λ p d. trying p d 0 ls) (λ p. made-next p ls) (λ rs′ d. trying-made ls d 0 v rs′ t) in
+      record {
+        none-refused = h .0;
+        after-them = h .1 ∙ ap {A = Bool} (λ b. following (here v rs) (cond b (unchanged (here v rs) (refused 10 0)) (search-ended (searching (here v rs) ls)))) (sym e);
+      }
+
+pub search-makes : (q : State) (ls : List ℤ) → Taken q (search ls) → Makes q ls
+unfolding reply
+search-makes q ls t = go (q .broken) (any (no-atom q) ls) refl refl t
+  where
+    go : (x y : Bool) → q .broken ≡ x → any (no-atom q) ls ≡ y
+        → paper (cond x (unchanged q (refused 9 0)) (cond y (unchanged q (refused 10 0)) (effect q (search ls))) .answer) .code ≡ 0 → Makes q ls
+    go true y e f t = absurd (let b : ⊥ = omega (arith, t) in b)
+    go false true e f t = absurd (let b : ⊥ = omega (arith, t) in b)
+    go false false e f t =
+        subst (λ x. Makes (state-at x (q .atoms) (q .levels) (q .sentences) (q .level) (q .rows)) ls) (sym e)
+        (makes (q .atoms) (q .levels) (q .sentences) ls (q .level) (q .rows) f)
