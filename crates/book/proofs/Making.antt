@@ -41,11 +41,11 @@ module _ (n top : ℕ) (js : List Judged) where
 
   -- ---- each call's reply
 
-  open-taken : (v : ℕ) (rs : List Row) → leb top v ≡ false → reply (here v rs) open-level ≡ opening (here v rs)
+  pub open-taken : (v : ℕ) (rs : List Row) → leb top v ≡ false → reply (here v rs) open-level ≡ opening (here v rs)
   unfolding reply
   open-taken v rs e = ap {A = Bool} (λ b. cond b (unchanged (here v rs) (refused 14 0)) (opening (here v rs))) e
 
-  give-taken : (v : ℕ) (rs : List Row) (l : ℤ) → no-atom (here v rs) l ≡ false → on-trail (here v rs) (atom l) ≡ false → reply (here v rs) (give l) ≡ giving (here v rs) l
+  pub give-taken : (v : ℕ) (rs : List Row) (l : ℤ) → no-atom (here v rs) l ≡ false → on-trail (here v rs) (atom l) ≡ false → reply (here v rs) (give l) ≡ giving (here v rs) l
   unfolding reply
   give-taken v rs l e f =
       ap₂ {A = Bool} {B = Bool} (λ a b. cond a (unchanged (here v rs) (refused 10 0)) (cond b (unchanged (here v rs) (refused 11 0)) (giving (here v rs) l))) e f

@@ -72,3 +72,15 @@ moved-here {lim} {w} {w′} m a = record {
   size = m .size;
   rest = m .rest;
 }
+
+-- with another answer
+pub moved-with : {lim : Limits} {w w′ : List ℕ} {c′ : Counters} {o : Outcome} → Moved lim w w′ c′ o → (a : Answer) → Moved lim w w′ c′ (record { answer = a; level = o .level; rows = o .rows })
+moved-with m a = record {
+  whole = m .whole;
+  atoms = m .atoms;
+  theory = m .theory;
+  level = m .level;
+  rows = m .rows;
+  size = m .size;
+  rest = m .rest;
+}

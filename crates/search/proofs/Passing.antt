@@ -1,75 +1,113 @@
--- One literal of the list: of no atom it ends the search, on the trail it is passed, open it is tried. Each is one case of `try-next`.
-use mathlib.Core.Path.{_≡_, refl, ap, ap₂, _∙_, subst}
-use mathlib.Core.Bool.{Bool, true, false, not, cond, _&&_}
+-- One literal of the list: of no atom it is what 10 looks for; on the trail it is passed; open it is tried, or ends the search at the highest
+-- level. Each is one case of `any` or of `trying`, told of the list from a place on.
+use mathlib.Core.Path.{_≡_, refl, sym, ap, ap₂, _∙_, subst}
+use mathlib.Core.Bool.{Bool, true, false, not, cond, _&&_, true≢false}
 use mathlib.Core.List.{List, [], _∷_}
-use Prim.Native.Nat.{ℕ, suc, _<_, _≤_}
+use Prim.Native.Nat.{ℕ, zero, suc, _<_, _≤_}
 use native.Mathlib.Omega.{arith}
 use lib.ListN.{length, drop, drop-of-length-le}
 use lib.Seq.{drop-cons}
 use lib.IntN.{ℤ, pos}
-use lib.Dec.{leb}
+use lib.Dec.{T, leb}
 use borrow.Author.Tests.{le-leb, lt-leb}
 use Rattle.meaning.specs.Meaning.{atom}
-use Rattle.book.specs.Table.{open-level, propagate, refused, still, State, unchanged, no-atom, on-trail, reply, following}
-use Rattle.calls.specs.Calls.{is-refusal}
-use Rattle.search.specs.declared.Next.{Next}
-use Rattle.search.specs.Search.{Ended, ending, apart, given, try-next}
-use Rattle.search.specs.Turn.{nth, IsOpen, NextIs}
-
--- a turn: propagate, and what is left after it
-abbrev pub turns : State → ℕ → List ℤ → Ended
-turns q total ls = apart (reply q propagate) (reply q propagate .answer) total (λ n. try-next (following q (reply q propagate)) n ls)
-
-abbrev pub tried : State → ℕ → ℤ → List ℤ → Ended
-tried q total l ls =
-    cond (is-refusal (reply q open-level .answer)) (ending (reply q open-level) (reply q open-level .answer) total) (turns (given q l) total ls)
-
--- by the two tests of the literal
-abbrev tested : State → ℕ → ℤ → List ℤ → Bool → Bool → Ended
-tested q total l ls none on = cond none (ending (unchanged q (refused 10 0)) (refused 10 0) total) (cond on (try-next q total ls) (tried q total l ls))
-
-try-cons : (q : State) (total : ℕ) (l : ℤ) (ls : List ℤ) → try-next q total (l ∷ ls) ≡ tested q total l ls (no-atom q l) (on-trail q (atom l))
-unfolding try-next
-try-cons q total l ls = refl
-
-try-none : (q : State) (total : ℕ) → try-next q total [] ≡ ending (unchanged q (still total)) (still total) total
-unfolding try-next
-try-none q total = refl
-
-pub try-past : (q : State) (ls : List ℤ) (j total : ℕ) → length ls ≤ j → try-next q total (drop j ls) ≡ ending (unchanged q (still total)) (still total) total
-try-past q ls j total l = ap (try-next q total) (drop-of-length-le ls {i = j} l) ∙ try-none q total
-
-module _ (q : State) (ls : List ℤ) (j : ℕ) (l : j < length ls) where
-  try-here : (total : ℕ) → try-next q total (drop j ls) ≡ tested q total (nth ls j) (drop (suc j) ls) (no-atom q (nth ls j)) (on-trail q (atom (nth ls j)))
-  try-here total = ap (try-next q total) (drop-cons ls j (pos 0) l) ∙ try-cons q total (nth ls j) (drop (suc j) ls)
-
-  by-tests : (none on : Bool) → no-atom q (nth ls j) ≡ none → on-trail q (atom (nth ls j)) ≡ on → (total : ℕ)
-      → try-next q total (drop j ls) ≡ tested q total (nth ls j) (drop (suc j) ls) none on
-  by-tests none on e f total = try-here total ∙ ap₂ {A = Bool} {B = Bool} (tested q total (nth ls j) (drop (suc j) ls)) e f
-
-  pub try-strange : no-atom q (nth ls j) ≡ true → (total : ℕ) → try-next q total (drop j ls) ≡ ending (unchanged q (refused 10 0)) (refused 10 0) total
-  try-strange e total = by-tests true (on-trail q (atom (nth ls j))) e refl total
-
-  pub try-passed : no-atom q (nth ls j) ≡ false → on-trail q (atom (nth ls j)) ≡ true → (total : ℕ)
-      → try-next q total (drop j ls) ≡ try-next q total (drop (suc j) ls)
-  try-passed e f total = by-tests false true e f total
-
-  pub try-open : IsOpen q (nth ls j) → (total : ℕ) → try-next q total (drop j ls) ≡ tried q total (nth ls j) (drop (suc j) ls)
-  try-open o total = by-tests false false (o .known) (o .off) total
+use Rattle.book.specs.Rows.{any}
+use Rattle.book.specs.Table.{State, on-trail, End, end, turning, tried, trying}
+use Rattle.book.proofs.Sound.{Within}
+use Rattle.book.proofs.Keeps.{atom-told}
+use Rattle.search.specs.Search.{AllKnown}
+use Rattle.search.specs.Turn.{nth}
 
 -- ---- the test of the atom
 
-module _ (q : State) (l : ℤ) where
-  pub atom-zero : atom l ≡ 0 → no-atom q l ≡ true
-  atom-zero e = ap {A = Bool} (λ b. not (b && leb (atom l) (q .atoms))) (lt-leb 1 (atom l) (omega arith))
+abbrev pub unknown : ℕ → ℤ → Bool
+unknown n l = not (leb 1 (atom l) && leb (atom l) n)
 
-  pub atom-high : 1 ≤ atom l → q .atoms < atom l → no-atom q l ≡ true
-  atom-high low h = ap₂ {A = Bool} {B = Bool} (λ x y. not (x && y)) (le-leb 1 (atom l) low) (lt-leb (atom l) (q .atoms) h)
+module _ (n : ℕ) (l : ℤ) where
+  pub atom-zero : atom l ≡ 0 → unknown n l ≡ true
+  atom-zero e = ap {A = Bool} (λ b. not (b && leb (atom l) n)) (lt-leb 1 (atom l) (omega arith))
 
-  pub atom-known : 1 ≤ atom l → atom l ≤ q .atoms → no-atom q l ≡ false
-  atom-known low high = ap₂ {A = Bool} {B = Bool} (λ x y. not (x && y)) (le-leb 1 (atom l) low) (le-leb (atom l) (q .atoms) high)
+  pub atom-high : 1 ≤ atom l → n < atom l → unknown n l ≡ true
+  atom-high low h = ap₂ {A = Bool} {B = Bool} (λ x y. not (x && y)) (le-leb 1 (atom l) low) (lt-leb (atom l) n h)
 
--- ---- what was found
+  pub atom-known : 1 ≤ atom l → atom l ≤ n → unknown n l ≡ false
+  atom-known low high = ap₂ {A = Bool} {B = Bool} (λ x y. not (x && y)) (le-leb 1 (atom l) low) (le-leb (atom l) n high)
 
-pub next-here : (q : State) (ls : List ℤ) (start : ℕ) {x y : Next} → NextIs q ls start x → x ≡ y → NextIs q ls start y
-next-here q ls start n e = subst (NextIs q ls start) e n
+  pub atom-within : unknown n l ≡ false → Within n (atom l)
+  atom-within e = atom-told n l (subst (λ (b : Bool). T (not b)) (sym e) tt)
+
+-- ---- 10, from a place of the list on
+
+any-none : (p : ℤ → Bool) → any p [] ≡ false
+unfolding any
+any-none p = refl
+
+any-cons : (p : ℤ → Bool) (l : ℤ) (ls : List ℤ) → any p (l ∷ ls) ≡ cond (p l) true (any p ls)
+unfolding any
+any-cons p l ls = refl
+
+module _ (p : ℤ → Bool) (ls : List ℤ) (j : ℕ) where
+  pub any-past : length ls ≤ j → any p (drop j ls) ≡ false
+  any-past l = ap (any p) (drop-of-length-le ls {i = j} l) ∙ any-none p
+
+  module _ (l : j < length ls) where
+    any-here : any p (drop j ls) ≡ cond (p (nth ls j)) true (any p (drop (suc j) ls))
+    any-here = ap (any p) (drop-cons ls j (pos 0) l) ∙ any-cons p (nth ls j) (drop (suc j) ls)
+
+    pub any-found : p (nth ls j) ≡ true → any p (drop j ls) ≡ true
+    any-found e = any-here ∙ ap {A = Bool} (λ b. cond b true (any p (drop (suc j) ls))) e
+
+    pub any-passed : p (nth ls j) ≡ false → any p (drop j ls) ≡ any p (drop (suc j) ls)
+    any-passed e = any-here ∙ ap {A = Bool} (λ b. cond b true (any p (drop (suc j) ls))) e
+
+none-at : (p : ℤ → Bool) (ls : List ℤ) (j : ℕ) → j < length ls → any p ls ≡ false → p (nth ls j) ≡ false
+none-at p [] j l e = let b : ⊥ = omega (arith, l) in absurd b
+none-at p (x ∷ xs) j l e = go (p x) refl (sym (any-cons p x xs) ∙ e) j l (λ k m f. none-at p xs k m f)
+  where
+    go : (b : Bool) → p x ≡ b → cond (p x) true (any p xs) ≡ false → (k : ℕ) → k < suc (length xs)
+        → ((i : ℕ) → i < length xs → any p xs ≡ false → p (nth xs i) ≡ false) → p (nth (x ∷ xs) k) ≡ false
+    go true f e k m ih = absurd (true≢false (sym (ap {A = Bool} (λ b. cond b true (any p xs)) f) ∙ e))
+    go false f e zero m ih = f
+    go false f e (suc k) m ih = ih k (omega (arith, m)) (sym (ap {A = Bool} (λ b. cond b true (any p xs)) f) ∙ e)
+
+pub known-at : (n : ℕ) (ls : List ℤ) → AllKnown n ls → (j : ℕ) → j < length ls → unknown n (nth ls j) ≡ false
+known-at n ls e j l = none-at (unknown n) ls j l e
+
+-- ---- the search, from a place of the list on
+
+-- a turn: propagate, and what is left after it
+abbrev pub turns : State → (total gone : ℕ) → List ℤ → End
+turns q total gone ls = turning q total gone (λ p n. trying p n gone ls)
+
+-- by the two tests
+abbrev tested : State → (total gone : ℕ) → ℤ → List ℤ → Bool → Bool → End
+tested q total gone l ls on high = cond on (trying q total (suc gone) ls) (cond high (end 0 total gone q) (turns (tried q l) total (suc gone) ls))
+
+try-none : (q : State) (total gone : ℕ) → trying q total gone [] ≡ end 0 total gone q
+unfolding trying
+try-none q total gone = refl
+
+try-cons : (q : State) (total gone : ℕ) (l : ℤ) (ls : List ℤ) → trying q total gone (l ∷ ls) ≡ tested q total gone l ls (on-trail q (atom l)) (leb (q .levels) (q .level))
+unfolding trying
+try-cons q total gone l ls = refl
+
+module _ (q : State) (ls : List ℤ) (j total : ℕ) where
+  pub try-past : length ls ≤ j → trying q total j (drop j ls) ≡ end 0 total j q
+  try-past l = ap (trying q total j) (drop-of-length-le ls {i = j} l) ∙ try-none q total j
+
+  module _ (l : j < length ls) where
+    try-by : (on high : Bool) → on-trail q (atom (nth ls j)) ≡ on → leb (q .levels) (q .level) ≡ high
+        → trying q total j (drop j ls) ≡ tested q total j (nth ls j) (drop (suc j) ls) on high
+    try-by on high e f =
+        ap (trying q total j) (drop-cons ls j (pos 0) l) ∙ try-cons q total j (nth ls j) (drop (suc j) ls)
+        ∙ ap₂ {A = Bool} {B = Bool} (tested q total j (nth ls j) (drop (suc j) ls)) e f
+
+    pub try-passed : on-trail q (atom (nth ls j)) ≡ true → trying q total j (drop j ls) ≡ trying q total (suc j) (drop (suc j) ls)
+    try-passed e = try-by true (leb (q .levels) (q .level)) e refl
+
+    module _ (off : on-trail q (atom (nth ls j)) ≡ false) where
+      pub try-highest : leb (q .levels) (q .level) ≡ true → trying q total j (drop j ls) ≡ end 0 total j q
+      try-highest f = try-by false true off f
+
+      pub try-open : leb (q .levels) (q .level) ≡ false → trying q total j (drop j ls) ≡ turns (tried q (nth ls j)) total (suc j) (drop (suc j) ls)
+      try-open f = try-by false false off f

@@ -1,9 +1,9 @@
 -- The loop: what is left to do from the words reached comes to the whole search. A turn of propagate and a literal tried each take one
 -- case of it off. The total is at most the number of rows, as propagate only puts rows on.
-use mathlib.Core.Path.{_≡_, refl, sym, ap, _∙_, subst}
-use mathlib.Core.Bool.{false, not, cond, _||_}
+use mathlib.Core.Path.{_≡_, refl, sym, ap, ap₂, _∙_, subst}
+use mathlib.Core.Bool.{false, not, _||_}
 use mathlib.Core.List.{List}
-use Prim.Native.Nat.{ℕ, zero, suc, _+_, _-_, _≤_}
+use Prim.Native.Nat.{ℕ, zero, suc, _+_, _≤_, _<_}
 use native.Mathlib.Omega.{arith}
 use lib.ListN.{length, drop}
 use lib.IntN.{ℤ}
@@ -12,7 +12,7 @@ use Rattle.types.specs.declared.Limits.{Limits}
 use Rattle.types.specs.Limits.{Fitting}
 use Rattle.types.specs.declared.Counters as t
 use Rattle.book.specs.Rows.{Row}
-use Rattle.book.specs.Table.{open-level, propagate, Answer, refused, done, still, clash, Paper, paper, State, propagated, Outcome, ended, unchanged, reply, following}
+use Rattle.book.specs.Table.{propagate, done, Paper, paper, State, propagated, Outcome, ended, unchanged, put-on, propagating, following, End, end, apart, trying, searching, search-ended, reply, searched}
 use Rattle.book.specs.Book.{Counters, judged-all}
 use Rattle.area.specs.Layout.{atoms-of, level-of, rows-of, theory-of}
 use Rattle.area.specs.Whole.{Whole}
@@ -22,42 +22,46 @@ use Rattle.propagate.specs.declared.Propagated.the-variants.{Broken, Still, Con
 use Rattle.propagate.specs.Propagate.{plain, propagated-paper, counters-of, Named}
 use Rattle.propagate.proofs.Ending.{run-longer, not-refused}
 use Rattle.search.specs.declared.Searched.{Searched}
-use Rattle.search.specs.Search.{Ended, ending, apart, given, try-next, searched, SearchIs}
-use Rattle.search.specs.Turn.{nth, Comes, Tried, EndIs, Ends}
-use Rattle.search.proofs.Passing.{turns, tried, try-open}
-use Rattle.search.proofs.Moves.{rows-count, few-rows, stays, state-after, moved-twice, moved-here}
+use Rattle.search.specs.Search.{searched-paper}
+use Rattle.search.specs.Turn.{nth, NextIs, Tried, ended-by, Ends}
+use Rattle.search.proofs.Passing.{turns, try-past, try-highest, try-open}
+use Rattle.search.proofs.Moves.{rows-count, few-rows, stays, state-after, moved-twice, moved-here, moved-with}
 
 -- the words w reached from w₀, with so many derived; `left` is what is left to do
-pub record Reached (lim : Limits) (w₀ w : List ℕ) (c : Counters) (ls : List ℤ) (total : ℕ) (left : Ended) : Type 0 where
+pub record Reached (lim : Limits) (w₀ w : List ℕ) (c : Counters) (ls : List ℤ) (total : ℕ) (left : End) : Type 0 where
   pub moved : Moved lim w₀ w c (unchanged (area-state lim w) done)
-  pub same : searched (area-state lim w₀) ls ≡ left
+  pub same : searching (area-state lim w₀) ls ≡ left
   pub few : total ≤ c .length-is
 
-pub reached-first : (lim : Limits) (w : List ℕ) (c : Counters) (ls : List ℤ) → Whole lim w c → Reached lim w w c ls 0 (turns (area-state lim w) 0 ls)
-unfolding searched
+pub reached-first : (lim : Limits) (w : List ℕ) (c : Counters) (ls : List ℤ) → Whole lim w c → Reached lim w w c ls 0 (turns (area-state lim w) 0 0 ls)
 reached-first lim w c ls h = record { moved = stays lim w c h done; same = refl; few = omega arith }
 
 -- ---- the end
 
-pub ends : {lim : Limits} {w₀ w′ : List ℕ} {c′ : Counters} {ls : List ℤ} {left : Ended} {r : Searched} → searched (area-state lim w₀) ls ≡ left → SearchIs left r
-    → Moved lim w₀ w′ c′ (left .outcome) → Ends lim w₀ w′ c′ ls r
-ends {lim} {w₀} {w′} {c′} {r = r} e s m =
-    record { answer = subst (λ (x : Ended). SearchIs x r) (sym e) s; moved = subst (λ (x : Ended). Moved lim w₀ w′ c′ (x .outcome)) (sym e) m }
+ends : {lim : Limits} {w₀ w′ : List ℕ} {ls : List ℤ} {left : End} {r : Searched} → searching (area-state lim w₀) ls ≡ left
+    → searched-paper r ≡ paper (search-ended left .answer) → Moved lim w₀ w′ (counted (r .counters)) (search-ended left) → Ends lim w₀ w′ ls r
+ends {lim} {w₀} {w′} {r = r} e s m = record {
+  answer = s ∙ ap {A = End} (λ x. paper (search-ended x .answer)) (sym e);
+  moved = subst (λ (x : End). Moved lim w₀ w′ (counted (r .counters)) (search-ended x)) (sym e) m;
+}
 
--- with the words as they are
-pub ends-here : {lim : Limits} {w₀ w : List ℕ} {c : Counters} {ls : List ℤ} {total : ℕ} {left : Ended} {r : Searched} (a : Answer) → Reached lim w₀ w c ls total left
-    → left ≡ ending (unchanged (area-state lim w) a) a total → SearchIs (ending (unchanged (area-state lim w) a) a total) r → Ends lim w₀ w c ls r
-ends-here a g e s = ends (g .same ∙ e) s (moved-here (g .moved) a)
+-- no conflict, with the words as they are
+abbrev pub done-with : (total gone : ℕ) → t.Counters → Searched
+done-with total gone c = record { code = 0; sentence = record { 0 = 0 }; count = total; gone = gone; counters = c }
+
+ends-here : {lim : Limits} {w₀ w : List ℕ} {c : t.Counters} {ls : List ℤ} {total : ℕ} {left : End} (gone : ℕ) → Reached lim w₀ w (counted c) ls total left
+    → left ≡ end 0 total gone (area-state lim w) → Ends lim w₀ w ls (done-with total gone c)
+ends-here {total = total} gone g e = ends (g .same ∙ e) refl (moved-here (g .moved) (searched 0 total gone))
 
 -- ---- propagate
 
-by-still : (s k n : ℕ) → plain 0 n 0 ≡ paper (ended s k) → ended s k ≡ still n
-by-still zero k n e = ap {A = Paper} (λ p. still (p .value)) (sym e)
+by-still : (s k n : ℕ) → plain 0 n 0 ≡ paper (ended s k) → (s ≡ 0) × (k ≡ n)
+by-still zero k n e = (refl, ap {A = Paper} (λ p. p .value) (sym e))
 by-still (suc s) k n e = let d : 0 ≡ suc s = ap {A = Paper} (λ p. p .sentence) e in let b : ⊥ = omega (arith, d) in absurd b
 
-by-conflict : (s k n j : ℕ) → ¬ (j ≡ 0) → plain 0 n j ≡ paper (ended s k) → ended s k ≡ clash j n
+by-conflict : (s k n j : ℕ) → ¬ (j ≡ 0) → plain 0 n j ≡ paper (ended s k) → (s ≡ j) × (k ≡ n)
 by-conflict zero k n j d e = absurd (d (ap {A = Paper} (λ p. p .sentence) e))
-by-conflict (suc s) k n j d e = ap {A = Paper} (λ p. clash (p .sentence) (p .value)) (sym e)
+by-conflict (suc s) k n j d e = (ap {A = Paper} (λ p. p .sentence) (sym e), ap {A = Paper} (λ p. p .value) (sym e))
 
 not-broken : (s k : ℕ) → ¬ (plain 9 0 0 ≡ paper (ended s k))
 not-broken zero k e = let d : _≡_ {A = ℕ} 9 0 = ap {A = Paper} (λ p. p .code) e in omega (arith, d)
@@ -67,98 +71,98 @@ value-of : (s k : ℕ) → paper (ended s k) .value ≡ k
 value-of zero k = refl
 value-of (suc s) k = refl
 
+apart-conflict : (k : ℕ) (a b : End) → ¬ (k ≡ 0) → apart k a b ≡ a
+apart-conflict zero a b d = absurd (d refl)
+apart-conflict (suc k) a b d = refl
+
 module _ (lim : Limits) (w : List ℕ) where
   abbrev q : State
   q = area-state lim w
 
-  abbrev sentence : ℕ
-  sentence = propagated q .sentence
-
-  abbrev grown : ℕ
-  grown = length (propagated q .rows) - length (rows-of w)
-
-  answer-is : reply q propagate .answer ≡ ended sentence grown
+  reply-is : reply q propagate ≡ propagating q
   unfolding reply
-  answer-is = refl
-
-  rows-are : reply q propagate .rows ≡ propagated q .rows
-  unfolding reply
-  rows-are = refl
+  reply-is = refl
 
   longer : length (rows-of w) ≤ length (propagated q .rows)
   longer = run-longer (judged-all (theory-of w)) (level-of w) (suc (atoms-of w)) (rows-of w)
 
-  module _ {w₀ : List ℕ} {c : Counters} {ls : List ℤ} {total : ℕ} (rest : List ℤ) (g : Reached lim w₀ w c ls total (turns q total rest)) (w′ : List ℕ) (p : Propagated)
+  module _ {w₀ : List ℕ} {c : Counters} {ls : List ℤ} {total : ℕ} (gone : ℕ) (rest : List ℤ) (g : Reached lim w₀ w c ls total (turns q total gone rest)) (w′ : List ℕ) (p : Propagated)
       (a : Acts lim w w′ c (counted (counters-of p)) propagate (propagated-paper p)) where
-    moves : Moved lim w w′ (counted (counters-of p)) (reply q propagate)
-    moves = a .moved (g .moved .whole) (subst (λ (x : Answer). T (not (is-refusal x || false))) (sym answer-is) (not-refused sentence grown))
+    moves : Moved lim w w′ (counted (counters-of p)) (propagating q)
+    moves =
+        subst (λ (o : Outcome). Moved lim w w′ (counted (counters-of p)) o) reply-is
+        (a .moved (g .moved .whole)
+        (subst (λ (o : Outcome). T (not (is-refusal (o .answer) || false))) (sym reply-is) (not-refused (propagated q .sentence) (put-on q))))
 
-    told : propagated-paper p ≡ paper (ended sentence grown)
-    told = a .answer .told (g .moved .whole) ∙ ap {A = Answer} paper answer-is
+    told : propagated-paper p ≡ paper (ended (propagated q .sentence) (put-on q))
+    told = a .answer .told (g .moved .whole) ∙ ap (λ (o : Outcome). paper (o .answer)) reply-is
 
-    pub after-few : total + propagated-paper p .value ≤ counted (counters-of p) .length-is
+    after-few : total + propagated-paper p .value ≤ counted (counters-of p) .length-is
     after-few =
-        let e : propagated-paper p .value ≡ grown = ap {A = Paper} (λ x. x .value) told ∙ value-of sentence grown in
-        let f : length (rows-of w′) ≡ length (propagated q .rows) = ap {A = List Row} length (moves .rows ∙ rows-are) in
+        let e : propagated-paper p .value ≡ put-on q = ap {A = Paper} (λ x. x .value) told ∙ value-of (propagated q .sentence) (put-on q) in
+        let f : length (rows-of w′) ≡ length (propagated q .rows) = ap {A = List Row} length (moves .rows) in
         omega (arith, e, f, longer, g .few, rows-count lim w c (g .moved .whole), rows-count lim w′ (counted (counters-of p)) (moves .whole))
 
     pub after-small : Fitting lim → total + propagated-paper p .value ≤ 4096
     after-small fit = omega (arith, after-few, few-rows lim w′ (counted (counters-of p)) (moves .whole) fit)
 
-    pub reached-still : (n : ℕ) (k : t.Counters) → p ≡ Still n k → Reached lim w₀ w′ (counted k) ls (total + n) (try-next (area-state lim w′) (total + n) rest)
+    -- by the sentence and the number of literals put on
+    turned : (s k : ℕ) → (propagated q .sentence ≡ s) × (put-on q ≡ k)
+        → turns q total gone rest ≡ apart s (end s (total + k) gone (following q (propagating q))) (trying (following q (propagating q)) (total + k) gone rest)
+    turned s k e =
+        ap₂ {A = ℕ} {B = ℕ} (λ x y. apart x (end x (total + y) gone (following q (propagating q))) (trying (following q (propagating q)) (total + y) gone rest)) (e .0) (e .1)
+
+    pub reached-still : (n : ℕ) (k : t.Counters) → p ≡ Still n k → Reached lim w₀ w′ (counted k) ls (total + n) (trying (area-state lim w′) (total + n) gone rest)
     reached-still n k e =
-        let x : reply q propagate .answer ≡ still n = answer-is ∙ by-still sentence grown n (sym (ap {A = Propagated} propagated-paper e) ∙ told) in
         let v : propagated-paper p .value ≡ n = ap {A = Propagated} (λ y. propagated-paper y .value) e in
-        subst (λ (y : t.Counters). Reached lim w₀ w′ (counted y) ls (total + n) (try-next (area-state lim w′) (total + n) rest)) (ap {A = Propagated} counters-of e)
+        subst (λ (y : t.Counters). Reached lim w₀ w′ (counted y) ls (total + n) (trying (area-state lim w′) (total + n) gone rest)) (ap {A = Propagated} counters-of e)
         (record {
           moved = moved-here (moved-twice (g .moved) moves) done;
           same =
               g .same
-              ∙ ap {A = Answer} (λ y. apart (reply q propagate) y total (λ m. try-next (following q (reply q propagate)) m rest)) x
-              ∙ ap {A = State} (λ y. try-next y (total + n) rest) (sym (state-after moves));
+              ∙ turned 0 n (by-still (propagated q .sentence) (put-on q) n (sym (ap {A = Propagated} propagated-paper e) ∙ told))
+              ∙ ap {A = State} (λ y. trying y (total + n) gone rest) (sym (state-after moves));
           few = omega (arith, after-few, v);
         })
 
     -- no answer but a conflict ends it
-    pub ends-answer : {r : Searched} → Named p → ((n : ℕ) (k : t.Counters) → ¬ (p ≡ Still n k)) → EndIs p total r → Ends lim w₀ w′ (counted (r .counters)) ls r
-    ends-answer {r} named d z = subst (λ y. Ends lim w₀ w′ (counted y) ls r) (sym (z .counters-is)) (go p told named d z (moved-twice (g .moved) moves))
+    pub ends-answer : Named p → ((n : ℕ) (k : t.Counters) → ¬ (p ≡ Still n k)) → Ends lim w₀ w′ ls (ended-by p total gone)
+    ends-answer named d = go p told named d (moved-twice (g .moved) moves)
       where
-        go : (y : Propagated) → propagated-paper y ≡ paper (ended sentence grown) → Named y → ((n : ℕ) (k : t.Counters) → ¬ (y ≡ Still n k)) → EndIs y total r
-            → Moved lim w₀ w′ (counted (counters-of p)) (reply q propagate) → Ends lim w₀ w′ (counted (counters-of p)) ls r
-        go (Broken k) e named d z m = absurd (not-broken sentence grown e)
-        go (Still n k) e named d z m = absurd (d n k refl)
-        go (Conflict k n v) e named d z m =
-            let x : reply q propagate .answer ≡ clash (k .0) n = answer-is ∙ by-conflict sentence grown n (k .0) named e in
-            ends (g .same ∙ ap {A = Answer} (λ y. apart (reply q propagate) y total (λ m. try-next (following q (reply q propagate)) m rest)) x)
-            (record { code-is = z .code-is; sentence-is = z .sentence-is; count-is = z .count-is }) m
+        go : (y : Propagated) → propagated-paper y ≡ paper (ended (propagated q .sentence) (put-on q)) → Named y → ((n : ℕ) (k : t.Counters) → ¬ (y ≡ Still n k))
+            → Moved lim w₀ w′ (counted (counters-of y)) (propagating q) → Ends lim w₀ w′ ls (ended-by y total gone)
+        go (Broken k) e named d m = absurd (not-broken (propagated q .sentence) (put-on q) e)
+        go (Still n k) e named d m = absurd (d n k refl)
+        go (Conflict k n v) e named d m =
+            ends
+            (g .same ∙ turned (k .0) n (by-conflict (propagated q .sentence) (put-on q) n (k .0) named e)
+            ∙ apart-conflict (k .0) (end (k .0) (total + n) gone (following q (propagating q))) (trying (following q (propagating q)) (total + n) gone rest) named)
+            refl (moved-with m (searched (k .0) (total + n) gone))
 
--- ---- a literal tried
+-- ---- the next literal
 
-module _ (lim : Limits) {w₀ w : List ℕ} {c : Counters} {ls : List ℤ} {total start j : ℕ}
-    (g : Reached lim w₀ w c ls total (try-next (area-state lim w) total (drop start ls))) (o : Comes (area-state lim w) ls start j) where
-  left-is : try-next (area-state lim w) total (drop start ls) ≡ tried (area-state lim w) total (nth ls j) (drop (suc j) ls)
-  left-is = o .same total ∙ try-open (area-state lim w) ls j (o .inside) (o .is-open) total
+module _ (lim : Limits) {w₀ w : List ℕ} {c : t.Counters} {ls : List ℤ} {total start j : ℕ}
+    (g : Reached lim w₀ w (counted c) ls total (trying (area-state lim w) total start (drop start ls))) (o : NextIs (area-state lim w) ls start j) where
+  pub ends-list : length ls ≤ j → Ends lim w₀ w ls (done-with total j c)
+  ends-list l = ends-here j g (o .passed total ∙ try-past (area-state lim w) ls j total l)
 
-  by-reply : (x : Outcome) → reply (area-state lim w) open-level ≡ x
-      → try-next (area-state lim w) total (drop start ls)
-      ≡ cond (is-refusal (x .answer)) (ending x (x .answer) total) (turns (given (area-state lim w) (nth ls j)) total (drop (suc j) ls))
-  by-reply x e =
-      left-is
-      ∙ ap {A = Outcome} (λ y. cond (is-refusal (y .answer)) (ending y (y .answer) total) (turns (given (area-state lim w) (nth ls j)) total (drop (suc j) ls))) e
-
-  module _ (w′ : List ℕ) (c′ : Counters) (code : ℕ) (t : Tried lim w w′ c c′ (nth ls j) code) where
-    pub ends-level : {r : Searched} → ¬ (code ≡ 0) → r .code ≡ code → r .sentence .0 ≡ 0 → r .count ≡ total → Ends lim w₀ w′ c′ ls r
-    ends-level {r} d e s k =
+  module _ (w′ : List ℕ) (c′ : t.Counters) (code : ℕ) (t : Tried lim w w′ (counted c) (counted c′) (nth ls j) code) (l : j < length ls) where
+    pub ends-level : ¬ (code ≡ 0) → Ends lim w₀ w′ ls (done-with total j c′)
+    ends-level d =
         let f = t .refused d in
-        subst (λ (v : List ℕ). Ends lim w₀ v c′ ls r) (sym (f .area-same))
-        (subst (λ (v : Counters). Ends lim w₀ w v ls r) (sym (f .counters-same))
-        (ends-here (refused 14 0) g (by-reply (unchanged (area-state lim w) (refused 14 0)) (f .reply-is)) (record { code-is = e ∙ f .code-is; sentence-is = s; count-is = k })))
+        let e = o .passed total ∙ try-highest (area-state lim w) ls j total l (o .is-open l) (f .highest) in
+        ends (g .same ∙ e) refl
+        (subst (λ (v : List ℕ). Moved lim w₀ v (counted c′) (search-ended (end 0 total j (area-state lim w)))) (sym (f .area-same))
+        (subst (λ (v : Counters). Moved lim w₀ w v (search-ended (end 0 total j (area-state lim w)))) (sym (f .counters-same))
+        (moved-here (g .moved) (searched 0 total j))))
 
-    pub reached-given : code ≡ 0 → Reached lim w₀ w′ c′ ls total (turns (area-state lim w′) total (drop (suc j) ls))
+    pub reached-given : code ≡ 0 → Reached lim w₀ w′ (counted c′) ls total (turns (area-state lim w′) total (suc j) (drop (suc j) ls))
     reached-given e =
         let f = t .given e in
         record {
           moved = moved-here (moved-twice (g .moved) (f .moved)) done;
-          same = g .same ∙ by-reply _ (f .reply-is) ∙ ap {A = State} (λ y. turns y total (drop (suc j) ls)) (sym (state-after (f .moved)));
+          same =
+              g .same ∙ o .passed total ∙ try-open (area-state lim w) ls j total l (o .is-open l) (f .below)
+              ∙ ap {A = State} (λ y. turns y total (suc j) (drop (suc j) ls)) (sym (state-after (f .moved)));
           few = omega (arith, g .few, f .longer);
         }

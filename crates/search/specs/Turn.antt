@@ -1,68 +1,67 @@
--- What the parts of the search loop ask and leave: the next literal of the list, a literal tried at a level of its own, propagate's
--- answer at the end, and the loop on a whole area.
+-- What the parts of the search loop ask and leave, on a whole area: the next open literal of the list, a literal tried at a level of its
+-- own, propagate's answer at the end, and the loop.
 use mathlib.Core.Path.{_≡_}
-use mathlib.Core.Bool.{false}
+use mathlib.Core.Bool.{true, false}
 use mathlib.Core.List.{List}
 use Prim.Native.Nat.{ℕ, _+_, _<_, _≤_}
 use lib.ListN.{length, drop, getD}
 use lib.IntN.{ℤ, pos}
+use lib.Dec.{leb}
 use Rattle.types.specs.declared.Limits.{Limits}
+use Rattle.types.specs.declared.Counters as t
 use Rattle.meaning.specs.Meaning.{atom}
-use Rattle.book.specs.Table.{open-level, give, refused, still, State, unchanged, no-atom, on-trail, effect, reply}
+use Rattle.book.specs.Table.{paper, State, no-atom, on-trail, giving, opening, following, trying, searching, search-ended}
 use Rattle.book.specs.Book.{Counters}
-use Rattle.calls.specs.Calls.{area-state, Moved}
-use Rattle.levels.specs.Levels.{Asked}
+use Rattle.area.specs.Layout.{atoms-of, level-of}
+use Rattle.calls.specs.Calls.{area-state, counted, Moved}
+use Rattle.trail.specs.Ready.{Usable}
 use Rattle.propagate.specs.declared.Propagated.{Propagated}
-use Rattle.propagate.specs.Propagate.{propagated-paper, counters-of}
+use Rattle.propagate.specs.declared.Propagated.the-variants.{Broken, Still, Conflict}
+use Rattle.propagate.specs.Propagate.{propagated-paper}
 use Rattle.search.specs.declared.Searched.{Searched}
-use Rattle.search.specs.declared.Next.{Next}
-use Rattle.search.specs.declared.Next.the-variants.{At, Strange, Nothing}
-use Rattle.search.specs.Search.{ending, opened, try-next, searched, SearchIs}
+use Rattle.search.specs.Search.{searched-paper, AllKnown}
 
--- ---- the next literal
+-- ---- a list that can be searched, and its next open literal
 
-abbrev pub Searchable : List ℕ → Type 0
-Searchable w = (lim : Limits) × (c : Counters) × Asked lim w c
+pub record Searchable (lim : Limits) (w : List ℕ) (c : Counters) (ls : List ℤ) : Type 0 where
+  pub usable : Usable lim w c
+  pub known : AllKnown (atoms-of w) ls
+
+pub record NextAsked (w : List ℕ) (ls : List ℤ) (start : ℕ) : Type 0 where
+  pub lim : Limits
+  pub counters : Counters
+  pub searchable : Searchable lim w counters ls
+  pub inside : start ≤ length ls
 
 abbrev pub nth : List ℤ → ℕ → ℤ
 nth ls j = getD ls j (pos 0)
 
--- a literal of an atom that is not on the trail
-pub record IsOpen (q : State) (l : ℤ) : Type 0 where
-  pub known : no-atom q l ≡ false
-  pub off : on-trail q (atom l) ≡ false
-
--- from `start` on, the first literal that is not passed is literal j, and it is open
-pub record Comes (q : State) (ls : List ℤ) (start j : ℕ) : Type 0 where
+-- from `start` on, the literals before j are passed over, and literal j is open, or j is the list's end
+pub record NextIs (q : State) (ls : List ℤ) (start j : ℕ) : Type 0 where
   pub later : start ≤ j
-  pub inside : j < length ls
-  pub is-open : IsOpen q (nth ls j)
-  pub same : (total : ℕ) → try-next q total (drop start ls) ≡ try-next q total (drop j ls)
-
-abbrev pub NextIs : State → List ℤ → ℕ → Next → Type 0
-NextIs q ls start (At j) = Comes q ls start j
-NextIs q ls start Strange = (total : ℕ) → try-next q total (drop start ls) ≡ ending (unchanged q (refused 10 0)) (refused 10 0) total
-NextIs q ls start Nothing = (total : ℕ) → try-next q total (drop start ls) ≡ ending (unchanged q (still total)) (still total) total
+  pub inside : j ≤ length ls
+  pub passed : (total : ℕ) → trying q total start (drop start ls) ≡ trying q total j (drop j ls)
+  pub is-open : j < length ls → on-trail q (atom (nth ls j)) ≡ false
 
 -- ---- a literal tried
 
 pub record Tryable (lim : Limits) (w : List ℕ) (c : Counters) (l : ℤ) : Type 0 where
-  pub asked : Asked lim w c
-  pub is-open : IsOpen (area-state lim w) l
+  pub usable : Usable lim w c
+  pub known : no-atom (area-state lim w) l ≡ false
+  pub off : on-trail (area-state lim w) (atom l) ≡ false
 
-pub record LevelRefused (lim : Limits) (w w′ : List ℕ) (c c′ : Counters) (code : ℕ) : Type 0 where
-  pub reply-is : reply (area-state lim w) open-level ≡ unchanged (area-state lim w) (refused 14 0)
-  pub code-is : code ≡ 14
+pub record LevelRefused (lim : Limits) (w w′ : List ℕ) (c c′ : Counters) : Type 0 where
+  pub highest : leb (lim .levels) (level-of w) ≡ true
   pub area-same : w′ ≡ w
   pub counters-same : c′ ≡ c
 
 pub record LiteralGiven (lim : Limits) (w w′ : List ℕ) (c c′ : Counters) (l : ℤ) : Type 0 where
-  pub reply-is : reply (area-state lim w) open-level ≡ effect (area-state lim w) open-level
-  pub moved : Moved lim w w′ c′ (reply (opened (area-state lim w)) (give l))
+  pub below : leb (lim .levels) (level-of w) ≡ false
+  pub moved : Moved lim w w′ c′ (giving (following (area-state lim w) (opening (area-state lim w))) l)
   pub longer : c .length-is ≤ c′ .length-is
 
 pub record Tried (lim : Limits) (w w′ : List ℕ) (c c′ : Counters) (l : ℤ) (code : ℕ) : Type 0 where
-  pub refused : ¬ (code ≡ 0) → LevelRefused lim w w′ c c′ code
+  pub refused : ¬ (code ≡ 0) → LevelRefused lim w w′ c c′
   pub given : code ≡ 0 → LiteralGiven lim w w′ c c′ l
 
 -- ---- the end
@@ -70,13 +69,16 @@ pub record Tried (lim : Limits) (w w′ : List ℕ) (c c′ : Counters) (l : ℤ
 abbrev pub Summable : Propagated → ℕ → Type 0
 Summable a total = total + propagated-paper a .value ≤ 8192
 
-pub record EndIs (a : Propagated) (total : ℕ) (r : Searched) : Type 0 where
-  pub code-is : r .code ≡ propagated-paper a .code
-  pub sentence-is : r .sentence .0 ≡ propagated-paper a .sentence
-  pub count-is : r .count ≡ total + propagated-paper a .value
-  pub counters-is : r .counters ≡ counters-of a
+abbrev pub refused-with : ℕ → t.Counters → Searched
+refused-with code c = record { code = code; sentence = record { 0 = 0 }; count = 0; gone = 0; counters = c }
+
+-- an answer of propagate as the end, with so many literals derived before and so many of the list gone through
+abbrev pub ended-by : Propagated → (total gone : ℕ) → Searched
+ended-by (Broken c) total gone = record { code = 9; sentence = record { 0 = 0 }; count = total; gone = gone; counters = c }
+ended-by (Still n c) total gone = record { code = 0; sentence = record { 0 = 0 }; count = total + n; gone = gone; counters = c }
+ended-by (Conflict k n c) total gone = record { code = 0; sentence = k; count = total + n; gone = gone; counters = c }
 
 -- the loop on a whole area
-pub record Ends (lim : Limits) (w w′ : List ℕ) (c′ : Counters) (ls : List ℤ) (r : Searched) : Type 0 where
-  pub answer : SearchIs (searched (area-state lim w) ls) r
-  pub moved : Moved lim w w′ c′ (searched (area-state lim w) ls .outcome)
+pub record Ends (lim : Limits) (w w′ : List ℕ) (ls : List ℤ) (r : Searched) : Type 0 where
+  pub answer : searched-paper r ≡ paper (search-ended (searching (area-state lim w) ls) .answer)
+  pub moved : Moved lim w w′ (counted (r .counters)) (search-ended (searching (area-state lim w) ls))
