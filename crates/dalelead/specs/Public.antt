@@ -6,11 +6,11 @@ use lib.ListN.{length}
 use lib.IntN.{ℤ}
 use Rattle.types.specs.Limits.{base}
 use Rattle.types.specs.declared.Counters.{Counters}
-use Rattle.book.specs.Table.{give, open-level, take-back, propagate, bounds, explain, explain-conflict, origin, list-trail}
+use Rattle.book.specs.Table.{give, open-level, take-back, propagate, search, bounds, explain, explain-conflict, origin, list-trail}
 use Rattle.calls.specs.Calls.{counted, done-paper, bounds-paper, listed-paper, Answered, Acts, Lists}
 use Rattle.propagate.specs.Propagate.{propagated-paper, counters-of, Named}
 use Rattle.propagate.specs.declared.Propagated.{Propagated}
-use Rattle.search.specs.Search.{Searches}
+use Rattle.search.specs.Search.{searched-paper}
 use Rattle.search.specs.declared.Searched.{Searched}
 use Rattle.calls.specs.declared.Done.{Done}
 use Rattle.calls.specs.declared.Bounds.{Bounds}
@@ -28,9 +28,8 @@ TakesBack w w′ c k r = Acts base w w′ (counted c) (counted (r .counters)) (t
 abbrev pub Propagates : (w w′ : List ℕ) → Counters → Propagated → Type 0
 Propagates w w′ c r = Acts base w w′ (counted c) (counted (counters-of r)) propagate (propagated-paper r) × Named r
 
--- the search loop over the literals `ls`
 abbrev pub SearchesFor : (w w′ : List ℕ) → Counters → (ls : List ℤ) → Searched → Type 0
-SearchesFor w w′ c ls r = Searches base w w′ (counted c) (counted (r .counters)) ls r
+SearchesFor w w′ c ls r = Acts base w w′ (counted c) (counted (r .counters)) (search ls) (searched-paper r)
 
 abbrev pub ReadsBounds : (w : List ℕ) → Counters → ℕ → Bounds → Type 0
 ReadsBounds w c k r = Answered base w (counted c) (bounds k) (bounds-paper r)

@@ -68,7 +68,8 @@ pub fn propagate(area: &mut [u64], counters: Counters) -> propagate::Propagated
     propagate::propagate_within(area, Limits::base(), counters)
 }
 
-// The search loop: propagate; from still open a level and give the next literal of the list whose atom is open, until the list is done.
+// The search loop: propagate; from still open a level and give the next literal of the list whose atom is open, until the list is done, a
+// sentence is in conflict or the highest level is reached. Its answer says how many literals of the list it went through.
 pub fn search(area: &mut [u64], counters: Counters, literals: &[i64]) -> search::Searched
     ensures { λ r. ⌜ SearchesFor (now (area .entry)) (now (area .exit)) counters (now (literals .entry)) r ⌝ }
 {

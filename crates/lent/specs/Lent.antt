@@ -15,6 +15,7 @@ use Rattle.search.specs.declared.Searched.{Searched}
 use Rattle.lent.specs.declared.Weighted.{Weighted}
 use Rattle.lent.specs.declared.Copied.{Copied}
 use Rattle.lent.specs.declared.Outcome.{Outcome}
+use Rattle.lent.specs.declared.SearchOutcome.{SearchOutcome}
 
 -- ---- the columns of a list of records
 
@@ -37,8 +38,8 @@ pub record CopyOf (rs : List Weighted) (r : Copied) : Type 0 where
 abbrev pub done : ℕ → Counters → Done
 done code c = record { code = code; counters = c }
 
-abbrev pub searched : Outcome → Counters → Searched
-searched r c = record { code = r .code; sentence = r .sentence; count = r .count; counters = c }
+abbrev pub searched : SearchOutcome → Counters → Searched
+searched r c = record { code = r .code; sentence = r .sentence; count = r .count; gone = r .gone; counters = c }
 
 -- `c` and `c′` are the counters before and after the call
 abbrev pub PropagatesTo : (w w′ : List ℕ) → (c c′ : Counters) → Outcome → Type 0

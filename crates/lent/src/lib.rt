@@ -121,7 +121,7 @@ pub fn load_records(
 
 // ---- the counters in the caller's hands
 
-// Of propagate and the search loop: 0 or the refusal; the sentence in conflict, 0 for none; and the number of literals derived.
+// Of propagate: 0 or the refusal; the sentence in conflict, 0 for none; and the number of literals derived.
 pub struct Outcome {
     pub code: u64,
     pub sentence: Sentence,
@@ -176,19 +176,33 @@ fn propagate_told(area: &mut [u64], counters: Counters) -> Told
     }
 }
 
+// Of the search loop: the same, over all turns, and the number of literals of the list that it went through.
+pub struct SearchOutcome {
+    pub code: u64,
+    pub sentence: Sentence,
+    pub count: u64,
+    pub gone: u64,
+}
+
+struct SearchTold {
+    outcome: SearchOutcome,
+    counters: Counters,
+}
+
 // The search loop's answer, with its counters beside it.
-fn search_told(area: &mut [u64], counters: Counters, literals: &[i64]) -> Told
+fn search_told(area: &mut [u64], counters: Counters, literals: &[i64]) -> SearchTold
     ensures { λ r. ⌜ SearchesFor (now (area .entry)) (now (area .exit)) counters (now (literals .entry)) (searched (r .outcome) (r .counters)) ⌝ }
 {
     let answer = dalelead::search(area, counters, literals);
     let sentence = answer.sentence;
     let after = answer.counters;
-    let outcome = Outcome {
+    let outcome = SearchOutcome {
         code: answer.code,
         sentence,
         count: answer.count,
+        gone: answer.gone,
     };
-    Told {
+    SearchTold {
         outcome,
         counters: after,
     }
@@ -231,7 +245,7 @@ pub fn propagate_in(area: &mut [u64], counters: &mut Counters) -> Outcome
 }
 
 // The search loop, with the counters in the caller's hands.
-pub fn search_in(area: &mut [u64], counters: &mut Counters, literals: &[i64]) -> Outcome
+pub fn search_in(area: &mut [u64], counters: &mut Counters, literals: &[i64]) -> SearchOutcome
     ensures { λ r. ⌜ SearchesFor (now (area .entry)) (now (area .exit)) (now (counters .entry)) (now (literals .entry)) (searched r (now (counters .exit))) ⌝ }
 {
     let answer = search_told(area, *counters, literals);

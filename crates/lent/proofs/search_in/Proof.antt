@@ -45,14 +45,14 @@ use denote.Exit.{yes}
 use Rattle.dalelead.specs.Public.{SearchesFor}
 use Rattle.lent.specs.Lent.{searched}
 use Rattle.types.specs.declared.Counters.{Counters}
-use Rattle.lent.specs.declared.Told.{Told}
-use Rattle.lent.specs.declared.Outcome.{Outcome}
+use Rattle.lent.specs.declared.SearchTold.{SearchTold}
+use Rattle.lent.specs.declared.SearchOutcome.{SearchOutcome}
 use Rattle.types.proofs.Counters as T
 use Rattle.types.proofs.Counters.Laws as T′
-use Rattle.lent.proofs.Told as S
-use Rattle.lent.proofs.Told.Laws as S′
-use Rattle.lent.proofs.Outcome as R
-use Rattle.lent.proofs.Outcome.Laws as R′
+use Rattle.lent.proofs.SearchTold as S
+use Rattle.lent.proofs.SearchTold.Laws as S′
+use Rattle.lent.proofs.SearchOutcome as R
+use Rattle.lent.proofs.SearchOutcome.Laws as R′
 use Rattle.lent.proofs.search_told as search-told
 use Rattle.lent.proofs.search_told.Symbol as search-told-def
 use Rattle.lent.proofs.search_told.Symbol.{name as #lent·search-told}
@@ -68,7 +68,7 @@ stayed = (gave-slice (0 ∷ []) tt (plain (λ _. u64)), (stay-ref (1 ∷ []) tt 
 abbrev vals : Counters → List Val
 vals = LL.vals T.the-type T′.the-laws
 
-abbrev rvals : Outcome → List Val
+abbrev rvals : SearchOutcome → List Val
 rvals = LL.vals R.the-type R′.the-laws
 
 -- the contract that the proof cites
@@ -115,11 +115,11 @@ module _ {M : Type 1} (𝓤 : URA M) (H : Heap 𝓤) (A : Atoms 𝓤) (W : Given
       ∷ []) $ fjoin ! $ move ! (1 ∷ 0 ∷ []) $ fjoin ! $ nothing ! $ move ! (2 ∷ 0 ∷ []) $ join ! $ move ! (2 ∷ 0 ∷ []) $ join ! $ join ! $ frame ! $ done !
 
   -- what the callee ensures
-  abbrev Said : Told → List ℕ → Type 0
+  abbrev Said : SearchTold → List ℕ → Type 0
   Said r zs-area = SearchesFor (area .now) zs-area h (literals .now) (searched (r .outcome) (r .counters))
 
   -- what is left of the parameters at the exit
-  abbrev Left : Told → List ℕ → List (Item 𝓤)
+  abbrev Left : SearchTold → List ℕ → List (Item 𝓤)
   Left r zs-area =
       ‵ (fobs γ (T.the-row .coded .code (r .counters)))
       ∷ ‵ (fbor κ₁ (Body (mem T.the-row) b o γ))
@@ -129,7 +129,7 @@ module _ {M : Type 1} (𝓤 : URA M) (H : Heap 𝓤) (A : Atoms 𝓤) (W : Given
       ∷ ‵ (ShrSlice (named 2) κ₂ i64 .own literals (s-literals ∷ []))
       ∷ []
 
-  exits : (r : Told) (zs-area : List ℕ) → Said r zs-area → length zs-area ≡ length (area .now) → Is R.the-row (r .outcome) (rvals (r .outcome))
+  exits : (r : SearchTold) (zs-area : List ℕ) → Said r zs-area → length zs-area ≡ length (area .now) → Is R.the-row (r .outcome) (rvals (r .outcome))
       → ent 𝓤 (⋆ 𝓤 H A (Left r zs-area)) (Post (R′.lowered (r .outcome)))
   exits r zs-area e l-area g =
       qed W (Left r zs-area) ∵
@@ -170,7 +170,7 @@ module _ {M : Type 1} (𝓤 : URA M) (H : Heap 𝓤) (A : Atoms 𝓤) (W : Given
         (raw (Core 𝓤 H A at-mem run .pre to-core)) goes-core $
         -- the call
         calls-at ! fm (Core 𝓤 H A at-mem run) known to-core (and-then ! (load ! (from ! (stop !)) (look ! 8 refl)) (and-then ! (load ! (from ! (stop !)) (look
-        ! 6 refl)) (and-then ! (load ! (from ! (stop !)) (look ! 14 refl)) (no-more !)))) (λ w. use1 W (later (some (λ (r : Told). ((‵ (flft κ₀ q₀) ⊛ ‵ (flft
+        ! 6 refl)) (and-then ! (load ! (from ! (stop !)) (look ! 14 refl)) (no-more !)))) (λ w. use1 W (later (some (λ (r : SearchTold). ((‵ (flft κ₀ q₀) ⊛ ‵ (flft
         κ₂ q₂) ⊛ ‵ ftrue) ⊛ ‵ (S.the-row .own r (w ∷ []))) ⊛ raw (ensured 𝓤 H A search-told.ended (search-told.clauses 𝓤 H A at-mem run) (κ₀, (κ₂, tt)) (
           area,
           (h, (literals, tt)),
