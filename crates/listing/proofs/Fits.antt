@@ -9,7 +9,7 @@ use native.Mathlib.Omega.{arith}
 use lib.ListN.{length, take, length-append}
 use lib.IntN.{ℤ, pos, negsuc, natAbs}
 use lib.Dec.{T, eqb, leb, leb→le}
-use borrow.Author.Tests.{eq-eqb, le-leb, eqb-true}
+use borrow.Author.Tests.{eq-eqb, ne-eqb, le-leb, eqb-true}
 use Rattle.types.specs.Limits.{base}
 use Rattle.meaning.specs.Meaning.{atom, Entry, sum, Sentence, Each}
 use Rattle.meaning.proofs.Gather.{each-map}
@@ -37,7 +37,8 @@ use Rattle.opb_text.specs.Text as text
 use Rattle.kinds.specs.Kinds as kind
 use Rattle.opb_text.proofs.Limits.{limits}
 use Rattle.opb_text.proofs.Columns.{same-rows}
-use Rattle.listing.specs.Output.{row-line, bound-line, answer-line, row-lines, bound-lines, state-lines, listing, area-words, loaded, heads-given, answered, printed, output, page-bytes}
+use Rattle.listing.specs.Output.{row-line, bound-line, row-lines, bound-lines, state-lines, listing, area-words, loaded, heads-given, answered, printed, output, page-bytes}
+use Rattle.answer_lines.specs.Lines.{stop-line}
 use Rattle.listing.specs.Steps.{Prints}
 use Rattle.listing.proofs.Lengths.{refused-length, still-length, conflict-length, row-length, bound-length}
 use Rattle.listing.proofs.Sums.{SmallSum, bound-small}
@@ -151,9 +152,9 @@ module _ (n : ℕ) (ss : List Sentence) (w : Each (Scoped n) ss) (m : JudgesAll 
   heads-stand q v (suc k) s = step (give (pos (v + suc k))) (λ p. refl) (heads-stand q v k s)
 
   module _ (hn : n ≤ 1024) (hs : length ss ≤ 256) (small : Each SmallSum ss) where
-    answer-length : (k d : ℕ) → k ≤ 256 → d ≤ 1024 → length (answer-line (ended k d)) ≤ 18
+    answer-length : (k d : ℕ) → k ≤ 256 → d ≤ 1024 → length (stop-line (paper (ended k d))) ≤ 18
     answer-length zero d h g = still-length d g
-    answer-length (suc k) d h g = conflict-length d (suc k) g h
+    answer-length (suc k) d h g = rw (ne-eqb (suc k) 0 (λ e. omega arith)) (conflict-length d (suc k) g h)
 
     stop-few : (rs : List Row) (h : Sound n ss 0 rs) (k : ℕ) → propagated (standing n ss rs) .sentence ≡ k → k ≤ 256
     stop-few rs h zero e = omega arith
@@ -161,7 +162,7 @@ module _ (n : ℕ) (ss : List Sentence) (w : Each (Scoped n) ss) (m : JudgesAll 
         let x = clash-means n ss js w m 0 rs h k e in
         omega (arith, number-few (suc k) ss (x .sentence) (x .number))
 
-    first-length : (rs : List Row) → Sound n ss 0 rs → length (answer-line (reply (standing n ss rs) propagate .answer)) ≤ 18
+    first-length : (rs : List Row) → Sound n ss 0 rs → length (stop-line (paper (reply (standing n ss rs) propagate .answer))) ≤ 18
     unfolding reply
     first-length rs h =
         let g = growth n ss js w m 0 rs h in
@@ -183,11 +184,11 @@ module _ (n : ℕ) (ss : List Sentence) (w : Each (Scoped n) ss) (m : JudgesAll 
 
     listing-length : {q : State} → Standing n ss q → length (listing q) ≤ page-bytes
     listing-length {q} s =
-        let a : length (answer-line (reply q propagate .answer)) ≤ 18 =
-        subst (λ (p : State). length (answer-line (reply p propagate .answer)) ≤ 18) (sym (s .state)) (first-length (s .rows) (s .sound)) in
+        let a : length (stop-line (paper (reply q propagate .answer))) ≤ 18 =
+        subst (λ (p : State). length (stop-line (paper (reply p propagate .answer))) ≤ 18) (sym (s .state)) (first-length (s .rows) (s .sound)) in
         omega (
           arith,
-          length-append (answer-line (reply q propagate .answer)) (state-lines (called q propagate)),
+          length-append (stop-line (paper (reply q propagate .answer))) (state-lines (called q propagate)),
           state-length (step propagate (λ p. refl) s),
         )
 

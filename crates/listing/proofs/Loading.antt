@@ -19,7 +19,8 @@ use Rattle.columns.specs.Refusals.{load-answer}
 use Rattle.columns.specs.declared.Answer.{Answer}
 use Rattle.load.specs.Load.{Loaded, Loads}
 use Rattle.pages.specs.Page.{Writes}
-use Rattle.listing.specs.Output.{refused-line, listing, area-words, loaded, heads-given, answered}
+use Rattle.answer_lines.specs.Lines.{refused-line}
+use Rattle.listing.specs.Output.{listing, area-words, loaded, heads-given, answered}
 use Rattle.listing.specs.Steps.{HeadsAsked, HeadsGiven, Answers}
 
 abbrev state : ℕ → List Rule → ℕ → List Row → State

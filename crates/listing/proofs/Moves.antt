@@ -5,7 +5,6 @@ use mathlib.Core.Bool.{Bool, true, false, not, cond, _||_}
 use mathlib.Core.List.{List}
 use Prim.Native.Nat.{ℕ, zero, suc, _+_}
 use native.Mathlib.Numerals.{add-one}
-use native.Mathlib.Omega.{arith}
 use lib.ListN.{length}
 use lib.IntN.{ℤ, pos}
 use lib.Dec.{T}
@@ -14,18 +13,19 @@ use Rattle.types.specs.declared.Limits.{Limits}
 use Rattle.types.specs.declared.Counters as t
 use Rattle.meaning.specs.Meaning.{atom}
 use Rattle.book.specs.Rows.{Row}
-use Rattle.book.specs.Table.{Call, give, propagate, refused, done, still, clash, Paper, paper, State, Outcome, unchanged, no-atom, on-trail, ended, effect, propagated, reply, following, called}
+use Rattle.book.specs.Table.{Call, give, propagate, refused, done, Paper, paper, State, Outcome, unchanged, no-atom, on-trail, ended, effect, propagated, reply, following, called}
 use Rattle.book.specs.Book.{Counters}
 use Rattle.area.specs.Whole.{Whole}
 use Rattle.calls.specs.Calls.{area-state, counted, is-refusal, keeps, Moved, Acts}
 use Rattle.propagate.specs.declared.Propagated.{Propagated}
-use Rattle.propagate.specs.declared.Propagated.the-variants.{Broken, Still, Conflict}
 use Rattle.propagate.specs.Propagate.{propagated-paper, counters-of, Named}
 use Rattle.search.proofs.Moves.{state-after}
+use Rattle.answer_lines.specs.Lines.{propagated-line, stop-line}
+use Rattle.answer_lines.proofs.Told.{propagated-told}
 use Rattle.pages.specs.Page.{Writes}
 use Rattle.pages.proofs.Laws.{then}
-use Rattle.listing.specs.Output.{answer-line, state-lines, listing, heads-given}
-use Rattle.listing.specs.Steps.{propagated-line, WholeArea, start, HeadsGiven}
+use Rattle.listing.specs.Output.{state-lines, listing, heads-given}
+use Rattle.listing.specs.Steps.{WholeArea, start, HeadsGiven}
 
 -- the area after a call, as a state of the table
 pub record Next (w w′ : List ℕ) (c′ : Counters) (x : Call) : Type 0 where
@@ -84,22 +84,10 @@ propagate-moves w =
 pub propagate-next : {w w′ : List ℕ} {c c′ : Counters} {p : Paper} → Whole base w c → Acts base w w′ c c′ propagate p → Next w w′ c′ propagate
 propagate-next {w} h a = moved-next propagate (a .moved h (propagate-moves w))
 
-absurd-numbers : {n : ℕ} {A : Type 0} → zero ≡ suc n → A
-absurd-numbers e = let b : ⊥ = omega arith in absurd b
-
-ended-line : (s n : ℕ) (r : Propagated) → propagated-paper r ≡ paper (ended s n) → Named r → propagated-line r ≡ answer-line (ended s n)
-ended-line zero n (Broken c) e d = absurd-numbers (sym (ap (λ (p : Paper). p .code) e))
-ended-line zero n (Still m c) e d = ap (λ (k : ℕ). answer-line (still k)) (ap (λ (p : Paper). p .value) e)
-ended-line zero n (Conflict k m c) e d = absurd (d (ap (λ (p : Paper). p .sentence) e))
-ended-line (suc s) n (Broken c) e d = absurd-numbers (sym (ap (λ (p : Paper). p .code) e))
-ended-line (suc s) n (Still m c) e d = absurd-numbers (ap (λ (p : Paper). p .sentence) e)
-ended-line (suc s) n (Conflict k m c) e d = ap₂ (λ (x y : ℕ). answer-line (clash x y)) (ap (λ (p : Paper). p .sentence) e) (ap (λ (p : Paper). p .value) e)
-
 pub propagate-line :
     {w w′ : List ℕ} {c c′ : Counters} (r : Propagated) → Whole base w c → Acts base w w′ c c′ propagate (propagated-paper r) → Named r →
-    propagated-line r ≡ answer-line (reply (area-state base w) propagate .answer)
-unfolding reply
-propagate-line {w} r h a d = ended-line (propagated (area-state base w) .sentence) _ r (a .answer .told h) d
+    propagated-line r ≡ stop-line (paper (reply (area-state base w) propagate .answer))
+propagate-line {w} r h a d = propagated-told r (reply (area-state base w) propagate .answer) (a .answer .told h) d
 
 -- ---- the listing
 

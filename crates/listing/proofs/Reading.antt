@@ -18,7 +18,8 @@ use Rattle.opb_text.proofs.Columns.{same-rows}
 use Rattle.pages.specs.Page.{Holds, Writes}
 use Rattle.pages.proofs.Laws.{starts}
 use Rattle.listing.specs.Steps.{Prints}
-use Rattle.listing.specs.Output.{refused-line, area-words, answered, printed, output}
+use Rattle.answer_lines.specs.Lines.{refused-line}
+use Rattle.listing.specs.Output.{area-words, answered, printed, output}
 
 abbrev pub fronts : ℕ → ℕ → Columns → Columns
 fronts n e c =

@@ -9,35 +9,17 @@ use lib.Dec.{eqb}
 use Rattle.types.specs.Limits.{base}
 use Rattle.numbers.specs.Text.{bytes, decimal, signed-decimal}
 use Rattle.book.specs.Rows.{Row}
-use Rattle.book.specs.Table.{give, propagate, bounds, Answer, refused, done, still, clash, between, listed, Paper, paper, State, reply, called}
+use Rattle.book.specs.Table.{give, propagate, bounds, Paper, paper, State, reply, called}
 use Rattle.book.specs.Book.{judged-all, rules-of}
 use Rattle.columns.specs.Columns.{Written, sentences-in}
 use Rattle.columns.specs.declared.Answer as load
 use Rattle.columns.specs.Refusals.{load-answer}
+use Rattle.answer_lines.specs.Lines.{refused-line, stop-line}
 use Rattle.opb_text.specs.Text.{Reading, reading, rows-from, columns-of}
 use Rattle.opb_text.specs.Text as text
 
--- ---- lines
-
--- 'Program refusals, printed `refused N k`'; 'load's refusals print with their sentence'
-abbrev pub refused-line : ℕ → ℕ → List ℕ
-refused-line code k = bytes "refused " ++ decimal code ++ bytes " " ++ decimal k ++ bytes "\n"
-
--- 'Line 1: `still` and the literals derived, or `conflict`, that count and the sentence.'
-abbrev pub still-line : ℕ → List ℕ
-still-line count = bytes "still " ++ decimal count ++ bytes "\n"
-
-abbrev pub conflict-line : ℕ → ℕ → List ℕ
-conflict-line count sentence = bytes "conflict " ++ decimal count ++ bytes " " ++ decimal sentence ++ bytes "\n"
-
--- propagate on a whole area has no other answer than the last two
-abbrev pub answer-line : Answer → List ℕ
-answer-line (still n) = still-line n
-answer-line (clash k n) = conflict-line n k
-answer-line (refused c n) = refused-line c n
-answer-line done = []
-answer-line (between v w) = []
-answer-line (listed ls) = []
+-- ---- lines: `refused-line` for 'refusals, printed `refused N k`' and 'load's refusals print with their sentence'; `stop-line` for 'Line 1:
+-- `still` and the literals derived, or `conflict`, that count and the sentence'; and
 
 -- '`t`: literal, level, reason (0 given).'
 abbrev pub row-line : Row → List ℕ
@@ -65,7 +47,7 @@ state-lines q = row-lines (q .rows) ++ bound-lines q (length (q .sentences))
 
 -- propagate's answer, and 'the other lines follow either'
 abbrev pub listing : State → List ℕ
-listing q = answer-line (reply q propagate .answer) ++ state-lines (called q propagate)
+listing q = stop-line (paper (reply q propagate .answer)) ++ state-lines (called q propagate)
 
 -- ---- the program
 

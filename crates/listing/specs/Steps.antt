@@ -8,18 +8,10 @@ use Rattle.types.specs.declared.Counters.{Counters}
 use Rattle.book.specs.Table.{State}
 use Rattle.area.specs.Whole.{Whole}
 use Rattle.calls.specs.Calls.{area-state, counted}
-use Rattle.propagate.specs.declared.Propagated.{Propagated}
-use Rattle.propagate.specs.declared.Propagated.the-variants.{Broken, Still, Conflict}
 use Rattle.columns.specs.Columns.{Columns, all-written}
 use Rattle.columns.specs.Refusals.{load-answer}
 use Rattle.pages.specs.Page.{Holds, Writes}
-use Rattle.listing.specs.Output.{still-line, conflict-line, refused-line, heads-given, area-words, answered, output}
-
--- the line of propagate's answer, as the code has it
-abbrev pub propagated-line : Propagated → List ℕ
-propagated-line (Broken c) = refused-line 9 0
-propagated-line (Still n c) = still-line n
-propagated-line (Conflict k n c) = conflict-line n (k .0)
+use Rattle.listing.specs.Output.{heads-given, area-words, answered, output}
 
 abbrev pub WholeArea : List ℕ → Counters → Type 0
 WholeArea w c = Whole base w (counted c)

@@ -1,13 +1,11 @@
 // The OPB program of document 01 on a lent page: a text is read and loaded, its heads are given in order at level 0, propagate is called,
 // and the answer, the trail and the bounds of each sentence are put on the page. The area is checked once, by propagate.
 use calls::Bounds;
-use propagate::Propagated;
 use types::Atom;
 use types::Counters;
 use types::Level;
 use types::Limits;
 use types::Sentence;
-ghost use mathlib.Core.Path.{_≡_};
 ghost use Prim.Native.Nat.{_+_, _*_, _≤_};
 ghost use lib.ListN.{length};
 ghost use Rattle.types.specs.Limits.{base};
@@ -15,24 +13,11 @@ ghost use Rattle.book.specs.Rows.{row};
 ghost use Rattle.area.specs.Layout.{rows-from};
 ghost use Rattle.calls.specs.Calls.{area-state, bounds-paper};
 ghost use Rattle.columns.specs.Columns.{columns};
-ghost use Rattle.propagate.specs.Propagate.{counters-of};
 ghost use Rattle.pages.specs.Page.{Writes};
 ghost use Rattle.listing.specs.Output.{row-line, bound-line, row-lines, bound-lines, state-lines, listing};
-ghost use Rattle.listing.specs.Steps.{propagated-line, WholeArea, HeadsAsked, HeadsGiven, Answers, Prints};
+ghost use Rattle.listing.specs.Steps.{WholeArea, HeadsAsked, HeadsGiven, Answers, Prints};
 
 // ---- lines
-
-fn put_answer(page: &mut [u8], at: usize, answer: Propagated) -> usize
-    ensures { λ r. ⌜ Writes (now (page .entry)) at (now (page .exit)) r (propagated-line answer) ⌝ }
-{
-    match answer {
-        Propagated::Broken(_) => pages::put_pair(page, at, b"refused ", 9, 0),
-        Propagated::Still(count, _) => pages::put_line(page, at, b"still ", count),
-        Propagated::Conflict(sentence, count, _) => {
-            pages::put_pair(page, at, b"conflict ", count, sentence.0)
-        }
-    }
-}
 
 fn put_row(page: &mut [u8], at: usize, literal: i64, level: u64, reason: u64) -> usize
     ensures { λ r. ⌜ Writes (now (page .entry)) at (now (page .exit)) r (row-line (row literal level reason)) ⌝ }
@@ -102,19 +87,9 @@ fn put_listing(page: &mut [u8], at: usize, area: &mut [u64], counters: Counters)
     ensures { λ r. ⌜ Writes (now (page .entry)) at (now (page .exit)) r (listing (area-state base (now (area .entry)))) ⌝ }
 {
     let answer = propagate::propagate_within(area, Limits::base(), counters);
-    let after = counters_of(answer);
-    let behind = put_answer(page, at, answer);
+    let after = propagate::counters_of(answer);
+    let behind = answer_lines::put_propagated(page, at, answer);
     put_state(page, behind, area, after)
-}
-
-fn counters_of(answer: Propagated) -> Counters
-    ensures { λ r. ⌜ r ≡ counters-of answer ⌝ }
-{
-    match answer {
-        Propagated::Broken(counters) => counters,
-        Propagated::Still(_, counters) => counters,
-        Propagated::Conflict(_, _, counters) => counters,
-    }
 }
 
 // ---- the run

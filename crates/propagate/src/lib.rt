@@ -3,6 +3,7 @@ use find::Found;
 use types::Counters;
 use types::Limits;
 use types::Sentence;
+ghost use mathlib.Core.Path.{_≡_};
 ghost use Rattle.types.specs.Limits.{Fitting};
 ghost use Rattle.book.specs.Table.{propagate};
 ghost use Rattle.calls.specs.Calls.{counted, Acts};
@@ -17,6 +18,16 @@ pub enum Propagated {
     Broken(Counters),
     Still(u64, Counters),
     Conflict(Sentence, u64, Counters),
+}
+
+pub fn counters_of(answer: Propagated) -> Counters
+    ensures { λ r. ⌜ r ≡ counters-of answer ⌝ }
+{
+    match answer {
+        Propagated::Broken(counters) => counters,
+        Propagated::Still(_, counters) => counters,
+        Propagated::Conflict(_, _, counters) => counters,
+    }
 }
 
 // Where the loop stops: the number of the sentence in conflict, 0 where none is, and the trail's length.

@@ -14,7 +14,7 @@ put-state-requires : tie.Need-put-state-requires
 put-state-requires c κs = still-whole (c .before .before .before .before .before .before .before .before .before .propagate-within .result) (c .before .before .before .before .before .before .before .before .before .before .base .ensures) (c .before .before .before .before .before .before .before .before .before .before .before .before .before .before .pre) (c .before .before .before .before .before .before .before .before .before .propagate-within .ensures) (c .before .before .before .before .before .before .counters-of .result) (c .before .before .before .before .before .before .counters-of .ensures)
 
 returns : tie.Need-returns
-returns c = listing-put (c .before .before .before .before .before .before .before .before .before .before .before .before .propagate-within .result) (c .before .before .before .before .before .before .before .before .before .before .before .before .before .base .ensures) (c .before .before .before .before .before .before .before .before .before .before .before .before .before .before .before .before .before .pre) (c .before .before .before .before .before .before .before .before .before .before .before .before .propagate-within .ensures) (c .before .before .before .before .before .before .before .put-answer .ensures) (c .before .before .put-state .ensures)
+returns c = listing-put (c .before .before .before .before .before .before .before .before .before .before .before .before .propagate-within .result) (c .before .before .before .before .before .before .before .before .before .before .before .before .before .base .ensures) (c .before .before .before .before .before .before .before .before .before .before .before .before .before .before .before .before .before .pre) (c .before .before .before .before .before .before .before .before .before .before .before .before .propagate-within .ensures) (c .before .before .before .before .before .before .before .put-propagated .ensures) (c .before .before .put-state .ensures)
 
 pub put-listing-spec : {M : Type 1} → statement M
 put-listing-spec =

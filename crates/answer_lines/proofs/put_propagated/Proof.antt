@@ -4,10 +4,10 @@ use mathlib.Core.List.{List}
 use Prim.Native.Nat.{ℕ}
 use Rattle.propagate.specs.declared.Propagated.{Propagated}
 use Rattle.pages.specs.Page.{Writes}
-use Rattle.listing.specs.Steps.{propagated-line}
+use Rattle.answer_lines.specs.Lines.{propagated-line}
 use borrow.Author.Needs.{needs}
-use Rattle.listing.proofs.put_answer.Statement.{statement}
-use Rattle.listing.proofs.put_answer.Tie as tie
+use Rattle.answer_lines.proofs.put_propagated.Statement.{statement}
+use Rattle.answer_lines.proofs.put_propagated.Tie as tie
 
 line-of : {old new : List ℕ} {at r : ℕ} {a b : Propagated} → a ≡ b → Writes old at new r (propagated-line b) → Writes old at new r (propagated-line a)
 line-of {old} {new} {at} {r} e = subst (λ (x : Propagated). Writes old at new r (propagated-line x)) (sym e)
@@ -21,8 +21,8 @@ returns-2 c = line-of (c .before .before .before .before .before .before .answer
 returns-3 : tie.Need-returns-3
 returns-3 c = line-of (c .before .before .before .before .before .before .answer2 .given .1) (c .before .before .put-pair2 .ensures)
 
-pub put-answer-spec : {M : Type 1} → statement M
-put-answer-spec =
+pub put-propagated-spec : {M : Type 1} → statement M
+put-propagated-spec =
     tie.close
     (tie.spec
     (λ c. search needs)
