@@ -28,6 +28,16 @@ extern "C" {
     fn dalelead_open(area: *mut u64, area_len: usize, length: u64, level: u64, next: *mut u64, next_len: usize) -> u64;
     fn dalelead_take_back(area: *mut u64, area_len: usize, length: u64, level: u64, k: u64, next: *mut u64, next_len: usize) -> u64;
     fn dalelead_propagate(area: *mut u64, area_len: usize, length: u64, level: u64, next: *mut u64, next_len: usize) -> u64;
+    fn dalelead_search(
+        area: *mut u64,
+        area_len: usize,
+        length: u64,
+        level: u64,
+        literals: *const i64,
+        literals_len: usize,
+        next: *mut u64,
+        next_len: usize,
+    ) -> u64;
     fn dalelead_bounds(area: *const u64, area_len: usize, length: u64, level: u64, sentence: u64, out: *mut i64, out_len: usize) -> u64;
     fn dalelead_explain(area: *const u64, area_len: usize, length: u64, level: u64, literal: i64, list: *mut i64, list_len: usize) -> u64;
     fn dalelead_explain_conflict(

@@ -43,12 +43,13 @@ impl Reply {
 }
 
 /// A call other than load, without the area, the counters and the room for the result.
-#[derive(Clone, Copy, PartialEq, Eq, Debug)]
+#[derive(Clone, PartialEq, Eq, Debug)]
 pub enum Request {
     Give(i64),
     Open,
     TakeBack(u64),
     Propagate,
+    Search(Vec<i64>),
     Bounds(u64),
     Explain(i64),
     ExplainConflict(u64),
@@ -59,8 +60,17 @@ pub enum Request {
 impl Request {
     /// Reports change no word of the work area.
     pub fn reports(&self) -> bool {
-        !matches!(self, Request::Give(_) | Request::Open | Request::TakeBack(_) | Request::Propagate)
+        !matches!(self, Request::Give(_) | Request::Open | Request::TakeBack(_) | Request::Propagate | Request::Search(_))
     }
+}
+
+/// What a search hands back beside the counters: the sentence in conflict or 0, 'the literals derived .. counted over all propagates',
+/// and 'the literals of the list gone through (tried, or passed over as already on the trail; the one that led to a conflict counts)'.
+#[derive(Clone, Copy, PartialEq, Eq, Debug)]
+pub struct Searched {
+    pub conflict: u64,
+    pub derived: usize,
+    pub gone: usize,
 }
 
 /// What load is handed: a number for each sentence in the first five, one for each entry in the last two.
@@ -235,14 +245,14 @@ impl Book {
 
     /// The same call, where 9 does not apply.
     pub fn request(&mut self, request: Request, room: usize) -> Reply {
-        if let Some(code) = self.refuses(request) {
+        if let Some(code) = self.refuses(&request) {
             return Reply::refused(code, 0);
         }
         // 18 comes after the others: 'lent result list shorter than the result', the counters and the bounds too.
         let fixed = match request {
             Request::Give(_) | Request::Open | Request::TakeBack(_) => Some(2),
             Request::Propagate => Some(3),
-            Request::Bounds(_) => Some(4),
+            Request::Bounds(_) | Request::Search(_) => Some(4),
             _ => None,
         };
         if fixed.is_some_and(|fixed| room < fixed) {
@@ -267,6 +277,10 @@ impl Book {
                 let (put_on, conflict) = self.propagate();
                 self.counters(conflict, &[put_on as i64])
             }
+            Request::Search(literals) => {
+                let Searched { conflict, derived, gone } = self.search(&literals);
+                self.counters(conflict, &[derived as i64, gone as i64])
+            }
             Request::Bounds(sentence) => {
                 let (least, greatest) = self.bounds(sentence);
                 let mut words = marked(least).to_vec();
@@ -286,13 +300,15 @@ impl Book {
     }
 
     /// The first refusal from 10 to 17 that applies, in table order.
-    fn refuses(&self, request: Request) -> Option<u64> {
+    fn refuses(&self, request: &Request) -> Option<u64> {
         let no_atom = |literal| !of_an_atom(literal, self.atoms);
         let no_sentence = |sentence| sentence == 0 || sentence > self.sentences.len() as u64;
-        match request {
+        match *request {
+            // '10 where any literal of the list is 0 or of no atom'
+            Request::Search(ref literals) if literals.iter().any(|literal| no_atom(*literal)) => Some(10),
             Request::Give(literal) if no_atom(literal) => Some(10),
             // 'atom already on the trail, either sign'
-            Request::Give(literal) if self.place(literal).or(self.place(-literal)).is_some() => Some(11),
+            Request::Give(literal) if self.on_the_trail(literal) => Some(11),
             Request::Explain(literal) | Request::Origin(literal) if no_atom(literal) => Some(10),
             Request::Explain(literal) | Request::Origin(literal) if self.place(literal).is_none() => Some(12),
             // 'literal was given'
@@ -309,6 +325,11 @@ impl Book {
         let mut words = vec![self.length() as i64, self.level as i64];
         words.extend(more);
         Reply { code: 0, value, words }
+    }
+
+    /// Whether the literal's atom is on the trail, with either sign.
+    pub fn on_the_trail(&self, literal: i64) -> bool {
+        self.place(literal).or(self.place(-literal)).is_some()
     }
 
     /// The place of a literal on the trail.
@@ -350,6 +371,31 @@ impl Book {
             }
         }
         (self.rows.len() - before, 0)
+    }
+
+    /// 'The search: propagate; from still, open a level and give the next literal of the list whose atom is open, propagate, and so on
+    /// until the list is done or a conflict ends it.' 'At the highest level the loop ends', but 'literals that are already on the trail
+    /// are still passed over'.
+    pub fn search(&mut self, literals: &[i64]) -> Searched {
+        let (derived, conflict) = self.propagate();
+        let mut searched = Searched { conflict, derived, gone: 0 };
+        for &literal in literals {
+            if searched.conflict > 0 {
+                break;
+            }
+            if !self.on_the_trail(literal) {
+                if self.level == MOST_LEVELS {
+                    break;
+                }
+                self.level += 1;
+                self.rows.push(Row { literal, level: self.level, reason: 0 });
+                let (derived, conflict) = self.propagate();
+                searched.derived += derived;
+                searched.conflict = conflict;
+            }
+            searched.gone += 1;
+        }
+        searched
     }
 
     /// 'if the head was on the trail before l, that literal negated; then, in entry order, the negation of each literal before l whose

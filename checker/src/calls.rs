@@ -38,12 +38,13 @@ pub enum Back {
     Above(u64),
 }
 
-#[derive(Clone, Copy, PartialEq, Debug)]
+#[derive(Clone, PartialEq, Debug)]
 pub enum Asked {
     Give(Literal),
     Open,
     TakeBack(Back),
     Propagate,
+    Search(Vec<Literal>),
     Bounds(Which),
     Explain(Literal),
     ExplainConflict(Which),
@@ -115,6 +116,8 @@ pub enum Change {
     Words(Vec<(usize, Alter)>),
     /// The book altered, then laid out again.
     Mutant(u64),
+    /// The book at this level, if its own is not higher.
+    Level(u64),
     /// Words that no call made.
     Random(u64),
 }
@@ -174,12 +177,13 @@ impl Which {
 }
 
 impl Asked {
-    pub fn resolve(self, book: &Book) -> Request {
+    pub fn resolve(&self, book: &Book) -> Request {
         match self {
+            Asked::Search(literals) => Request::Search(literals.iter().map(|literal| literal.resolve(book)).collect()),
             Asked::Give(literal) => Request::Give(literal.resolve(book)),
             Asked::Open => Request::Open,
-            Asked::TakeBack(Back::Below(k)) => Request::TakeBack(book.level.saturating_sub(k)),
-            Asked::TakeBack(Back::Above(k)) => Request::TakeBack(book.level.saturating_add(k)),
+            Asked::TakeBack(Back::Below(k)) => Request::TakeBack(book.level.saturating_sub(*k)),
+            Asked::TakeBack(Back::Above(k)) => Request::TakeBack(book.level.saturating_add(*k)),
             Asked::Propagate => Request::Propagate,
             Asked::Bounds(which) => Request::Bounds(which.resolve(book)),
             Asked::Explain(literal) => Request::Explain(literal.resolve(book)),
@@ -196,6 +200,7 @@ pub fn name(request: &Request) -> &'static str {
         Request::Open => "open",
         Request::TakeBack(_) => "take_back",
         Request::Propagate => "propagate",
+        Request::Search(_) => "search",
         Request::Bounds(_) => "bounds",
         Request::Explain(_) => "explain",
         Request::ExplainConflict(_) => "explain_conflict",
@@ -207,7 +212,7 @@ pub fn name(request: &Request) -> &'static str {
 impl fmt::Display for Act {
     fn fmt(&self, f: &mut fmt::Formatter) -> fmt::Result {
         write!(f, "{:?}", self.asked)?;
-        let plain = Act::plain(self.asked);
+        let plain = Act::plain(self.asked.clone());
         if self.lend != plain.lend {
             write!(f, ", area {:?}", self.lend)?;
         }

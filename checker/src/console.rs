@@ -356,10 +356,10 @@ impl Console {
     fn call(&mut self, request: Request) -> String {
         // 'before any plan every call answers 9'
         let reply = match &mut self.book {
-            Some(book) => book.request(request, usize::MAX),
+            Some(book) => book.request(request.clone(), usize::MAX),
             None => Reply::refused(9, 0),
         };
-        let reply = self.cut(request, reply);
+        let reply = self.cut(&request, reply);
         let (name, word) = match request {
             Request::Give(_) => ("give", "give"),
             Request::Open => ("open", "open"),
@@ -370,10 +370,11 @@ impl Console {
             Request::ExplainConflict(_) => ("conflict", "conflict-why"),
             Request::Origin(_) => ("origin", "origin"),
             Request::Trail => ("trail", "trail"),
+            Request::Search(_) => unreachable!("the console has no search"),
         };
         self.said.count(name, reply.code);
-        self.measure(request, &reply);
-        let mut answer = self.worded(request, word, &reply);
+        self.measure(&request, &reply);
+        let mut answer = self.worded(&request, word, &reply);
         self.said.reach.meet("bytes of an answer", answer.len() as u64);
         if self.slip == Slip::AnswerCut {
             answer.truncate(8192);
@@ -381,7 +382,7 @@ impl Console {
         answer
     }
 
-    fn measure(&mut self, request: Request, reply: &Reply) {
+    fn measure(&mut self, request: &Request, reply: &Reply) {
         if reply.code > 0 {
             return;
         }
@@ -398,7 +399,7 @@ impl Console {
     }
 
     /// The reply with the slip in what it lists.
-    fn cut(&self, request: Request, mut reply: Reply) -> Reply {
+    fn cut(&self, request: &Request, mut reply: Reply) -> Reply {
         match (self.slip, request) {
             (Slip::ExplanationCut, Request::Explain(_))
             | (Slip::ConflictCut, Request::ExplainConflict(_))
@@ -413,7 +414,7 @@ impl Console {
     }
 
     /// The answer's line or lines.
-    fn worded(&mut self, request: Request, word: &str, reply: &Reply) -> String {
+    fn worded(&mut self, request: &Request, word: &str, reply: &Reply) -> String {
         match request {
             Request::Give(_) | Request::Open | Request::TakeBack(_) => format!("{word} {} {}\n", reply.code, reply.value),
             _ if reply.code > 0 => format!("refused {} {}\n", reply.code, reply.value),

@@ -6,8 +6,10 @@ use std::collections::BTreeMap;
 use crate::book::{load, need, Book, Reply, Request};
 use crate::calls::*;
 use crate::library::Library;
+use crate::meaning::MOST_LEVELS;
 use crate::mutate::{altered, any_alter, changed};
 use crate::random::Random;
+use crate::reach::{self, Reach};
 use crate::whole;
 
 /// Words in front of every lent array and behind it, which nobody may touch.
@@ -42,8 +44,7 @@ impl<T: Copy> Lent<T> {
 const AREA_FENCE: u64 = 0xfe0c_e5fe_0ce5_fe0c;
 const RESULT_FENCE: i64 = -0x7e0c_e5fe_0ce5_fe0c;
 
-/// How often each call had each code, and each way of not being whole was met.
-#[derive(Default)]
+/// How often each call had each code, and each way of not being whole was met; how far the calls reach.
 pub struct Tally {
     pub codes: BTreeMap<(&'static str, u64), u64>,
     pub broken: BTreeMap<&'static str, u64>,
@@ -52,7 +53,27 @@ pub struct Tally {
     /// Literals that propagate put on, and conflicts.
     pub derived: u64,
     pub conflicts: u64,
+    pub reach: Reach,
 }
+
+impl Default for Tally {
+    fn default() -> Tally {
+        let reach = Reach::new(reach::CALLS);
+        Tally { codes: BTreeMap::new(), broken: BTreeMap::new(), whole: 0, calls: 0, derived: 0, conflicts: 0, reach }
+    }
+}
+
+/// The ways in which a search can go and end.
+pub const SEARCHES: [&str; 8] = [
+    "search to a conflict at once",
+    "search to a conflict",
+    "search to a conflict with literals behind",
+    "search through its list",
+    "search with literals tried and passed over",
+    "search ended by the highest level",
+    "search past literals at the highest level",
+    "search past literals to one at the highest level",
+];
 
 impl Tally {
     fn count(&mut self, name: &'static str, code: u64) {
@@ -71,6 +92,49 @@ impl Tally {
         self.calls += other.calls;
         self.derived += other.derived;
         self.conflicts += other.conflicts;
+        self.reach.add(&other.reach);
+    }
+
+    /// A call with code 0.
+    fn passed(&mut self, request: &Request, reply: &Reply, before: &Book, after: &Book) {
+        self.reach.meet("rows", after.length());
+        self.reach.meet("levels", after.level);
+        match request {
+            Request::Propagate => {
+                self.derived += reply.words[2] as u64;
+                self.conflicts += (reply.value > 0) as u64;
+                self.reach.meet("literals derived by a propagate", reply.words[2] as u64);
+            }
+            Request::Search(literals) => self.searched(literals, reply, before, after),
+            Request::Explain(_) => self.reach.meet("literals of an explanation", reply.value),
+            Request::ExplainConflict(_) => self.reach.meet("literals of a conflict's explanation", reply.value),
+            Request::Origin(_) => self.reach.meet("literals of an origin", reply.value),
+            _ => (),
+        }
+    }
+
+    fn searched(&mut self, literals: &[i64], reply: &Reply, before: &Book, after: &Book) {
+        let (gone, tried) = (reply.words[3] as usize, after.level - before.level);
+        self.reach.meet("literals derived by a search", reply.words[2] as u64);
+        self.reach.meet("literals of a search's list", literals.len() as u64);
+        self.reach.meet("literals gone through by a search", gone as u64);
+        self.reach.meet("literals tried by a search", tried);
+        let last_tried = after.rows.iter().rev().find(|row| row.reason == 0 && row.level > before.level);
+        let last_passed = gone > 0 && last_tried.map(|row| row.literal) != Some(literals[gone - 1]);
+        let highest = reply.value == 0 && after.level == MOST_LEVELS;
+        let ways = [
+            reply.value > 0 && gone == 0,
+            reply.value > 0 && gone > 0,
+            reply.value > 0 && gone < literals.len(),
+            reply.value == 0 && gone == literals.len(),
+            tried > 0 && gone as u64 > tried,
+            highest && gone < literals.len(),
+            highest && last_passed,
+            highest && last_passed && gone < literals.len(),
+        ];
+        for (way, _) in SEARCHES.iter().zip(ways).filter(|(_, so)| *so) {
+            *self.codes.entry((way, 0)).or_default() += 1;
+        }
     }
 }
 
@@ -183,6 +247,8 @@ impl Drive<'_> {
         match loaded {
             None => unchanged(&lent, &before)?,
             Some(new) => {
+                self.tally.reach.meet("sentences loaded", columns.heads.len() as u64);
+                self.tally.reach.meet("entries loaded", columns.weights.len() as u64);
                 self.holds(&lent, &before, &new)?;
                 // What is past the lent words is not the area's any more.
                 *area = Lent::new(&lent.words()[..many], AREA_FENCE);
@@ -253,7 +319,7 @@ impl Drive<'_> {
                 None => (Reply::refused(9, 0), None),
                 Some(book) => {
                     let mut new = book.clone();
-                    let reply = new.answer(request, many, length, level, room);
+                    let reply = new.answer(request.clone(), many, length, level, room);
                     (reply, Some(new))
                 }
             }
@@ -269,21 +335,20 @@ impl Drive<'_> {
         let before = area.buffer.clone();
         let mut result = self.result(room);
         let result_before = result.buffer.clone();
-        let given = self.library.call(request, area.lend(many), length, level, result.lend(room), act.null);
+        let given = self.library.call(&request, area.lend(many), length, level, result.lend(room), act.null);
         self.tally.count(name(&request), reply.code);
         let called = || format!("{request:?} on {many} words, counters {length} and {level}, room {room}");
         same(name(&request), given, reply.number()).map_err(|what| format!("{}: {what}", called()))?;
         self.result_is(&reply, &result, result_before).map_err(|what| format!("{}: {what}", called()))?;
+        if reply.code == 0 {
+            self.tally.passed(&request, &reply, state.unwrap(), new.as_ref().unwrap());
+        }
         if reply.code > 0 || request.reports() {
             unchanged(area, &before).map_err(|what| format!("{}: {what}", called()))?;
             return Ok(None);
         }
         let new = new.unwrap();
         self.holds(area, &before, &new).map_err(|what| format!("{}: {what}", called()))?;
-        if let Request::Propagate = request {
-            self.tally.derived += reply.words[2] as u64;
-            self.tally.conflicts += (reply.value > 0) as u64;
-        }
         Ok(Some(new))
     }
 
@@ -342,6 +407,7 @@ pub fn every_kind(random: &mut Random) -> Vec<Asked> {
         Asked::Open,
         Asked::TakeBack(Back::Below(random.below(3))),
         Asked::Propagate,
+        Asked::Search(vec![Literal::Open(i, random.coin()), Literal::Row(i), Literal::Open(i + 1, random.coin())]),
         Asked::Bounds(Which::Around(i)),
         Asked::Explain(Literal::Derived(i)),
         Asked::ExplainConflict(Which::InConflict),

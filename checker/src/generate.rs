@@ -255,6 +255,29 @@ fn literal(random: &mut Random, on_trail: bool, truth: &[bool]) -> Literal {
     }
 }
 
+/// A list to search over: literals to try, some on the trail, and at times one of no atom, mostly the last.
+fn search(random: &mut Random, truth: &[bool]) -> Asked {
+    let many = random.pick(&[0, 1, 2, 4, 8, 30]);
+    let mut literals: Vec<Literal> = (0..many)
+        .map(|_| match random.below(8) {
+            0 => Literal::Row(random.index(64)),
+            1 => Literal::NotRow(random.index(64)),
+            2..=4 if !truth.is_empty() => {
+                let atom = 1 + random.index(truth.len() - 1);
+                Literal::Number(if truth[atom] { atom as i64 } else { -(atom as i64) })
+            }
+            _ => Literal::Open(random.index(64), random.coin()),
+        })
+        .collect();
+    if random.chance(4) {
+        let wrong = random.pick(&[0, i64::MIN, i64::MAX, 1 << 32, (1 << 32) + 1]);
+        let wrong = random.pick(&[Literal::Number(wrong), Literal::Past(1), Literal::Past(-1)]);
+        let at = if random.chance(4) { random.index(literals.len() + 1) } else { literals.len() };
+        literals.insert(at, wrong);
+    }
+    Asked::Search(literals)
+}
+
 fn which(random: &mut Random) -> Which {
     match random.below(12) {
         0 => Which::Number(random.pick(&[0, u64::MAX, 1 << 32, (1 << 32) + 1])),
@@ -264,7 +287,7 @@ fn which(random: &mut Random) -> Which {
 }
 
 fn asked(random: &mut Random, truth: &[bool]) -> Asked {
-    match random.below(40) {
+    match random.below(42) {
         0..=12 => Asked::Give(literal(random, false, truth)),
         13..=16 => Asked::Open,
         17..=24 => Asked::Propagate,
@@ -278,6 +301,7 @@ fn asked(random: &mut Random, truth: &[bool]) -> Asked {
         30..=32 => Asked::Explain(literal(random, true, truth)),
         33 | 34 => Asked::ExplainConflict(if random.coin() { Which::InConflict } else { which(random) }),
         35..=37 => Asked::Origin(literal(random, true, truth)),
+        38 | 39 => search(random, truth),
         _ => Asked::Trail,
     }
 }
@@ -327,6 +351,9 @@ fn aside(random: &mut Random) -> Call {
         ),
         _ => Change::Mutant(random.word()),
     };
+    if random.chance(8) {
+        return searches_at_the_top(random);
+    }
     let kinds = every_kind(random);
     let acts = (0..1 + random.index(3))
         .map(|_| {
@@ -340,6 +367,21 @@ fn aside(random: &mut Random) -> Call {
     Call::Aside(change, acts)
 }
 
+/// Searches that come to the highest level, with literals on the trail and others behind.
+fn searches_at_the_top(random: &mut Random) -> Call {
+    let level = MOST_LEVELS - random.below(4);
+    let acts = (0..1 + random.index(3))
+        .map(|_| {
+            let mut act = Act::plain(search(random, &[]));
+            if random.chance(4) {
+                vary(random, &mut act);
+            }
+            act
+        })
+        .collect();
+    Call::Aside(Change::Level(level), acts)
+}
+
 /// The list of calls of a seed.
 pub fn list(seed: u64) -> List {
     let mut random = Random::new(seed.wrapping_mul(0x1000_0001));
@@ -347,6 +389,12 @@ pub fn list(seed: u64) -> List {
     let mut calls = Vec::new();
     if seed % 250 == 7 {
         return List { seed, calls: large(random) };
+    }
+    if seed % 1000 == 509 {
+        return List { seed, calls: long_search(random) };
+    }
+    if seed % 5000 == 759 {
+        return List { seed, calls: wide_sets(random) };
     }
     if seed % 1000 == 8 {
         return List { seed, calls: levels(random) };
@@ -418,6 +466,71 @@ fn large(random: &mut Random) -> Vec<Call> {
     calls
 }
 
+/// Searches over every atom of a theory at the limits, and questions about what they put on.
+fn long_search(random: &mut Random) -> Vec<Call> {
+    let n = MOST_ATOMS;
+    let (own, truth) = if random.below(4) > 0 { kept_theory(random, n, 256, 15) } else { (large_theory(random, n), vec![true; 1025]) };
+    let mut load = load(random, n, &own);
+    load.area = 0;
+    let mut literals: Vec<Literal> = (1..=n as i64).map(|atom| Literal::Number(if truth[atom as usize] { atom } else { -atom })).collect();
+    for i in (1..literals.len()).rev() {
+        let other = random.index(i + 1);
+        literals.swap(i, other);
+    }
+    if random.coin() {
+        // Against the theory, at some place.
+        let at = random.index(literals.len());
+        if let Literal::Number(literal) = &mut literals[at] {
+            *literal = -*literal;
+        }
+    }
+    let mut calls = vec![Call::Load(Box::new(load))];
+    let mut ask = |asked: Asked| calls.push(Call::Act(Act::plain(asked)));
+    let some = random.index(literals.len());
+    ask(Asked::Search(literals[..some].to_vec()));
+    ask(Asked::Search(literals));
+    for i in [0, 200, 511, 1022] {
+        ask(Asked::Explain(Literal::Derived(i)));
+        ask(Asked::Origin(Literal::Derived(i)));
+    }
+    ask(Asked::ExplainConflict(Which::InConflict));
+    ask(Asked::TakeBack(Back::Below(1 + random.below(40))));
+    ask(Asked::Propagate);
+    calls
+}
+
+/// Two sentences over all atoms but their heads: over a thousand literals derived at once, explained, in conflict, and as origin.
+fn wide_sets(random: &mut Random) -> Vec<Call> {
+    let most = MOST_ATOMS as i64;
+    let (kind, weight) = random.pick(&[(SUM, 1), (COUNT, 1), (SUM, 1_000_000_000)]);
+    let entries: Vec<(i64, i64)> = (3..=most).map(|atom| (weight, atom)).collect();
+    let set = |head: u64| Sentence { head, kind, side: LOWER, bound: weight * (most - 2), entries: entries.clone() };
+    let mut load = load(random, MOST_ATOMS, &[set(1), set(2)]);
+    load.area = 0;
+    let mut calls = vec![Call::Load(Box::new(load))];
+    let mut ask = |asked: Asked| calls.push(Call::Act(Act::plain(asked)));
+    let list = |literals: &[i64]| Asked::Search(literals.iter().map(|literal| Literal::Number(*literal)).collect());
+    // The first sentence derives every entry, and the second is in conflict.
+    ask(list(&[-2, 1, 5, 7]));
+    ask(Asked::ExplainConflict(Which::InConflict));
+    ask(Asked::Explain(Literal::Derived(1021)));
+    ask(Asked::Origin(Literal::Derived(1021)));
+    ask(Asked::TakeBack(Back::Below(2)));
+    ask(list(&[1, 2, -4, 1024]));
+    ask(Asked::TakeBack(Back::Below(1000)));
+    ask(Asked::Open);
+    ask(Asked::Give(Literal::Number(1)));
+    ask(Asked::Propagate);
+    ask(Asked::TakeBack(Back::Below(1)));
+    // Every entry tried at a level of its own but the last, which is derived.
+    ask(Asked::Give(Literal::Number(-1)));
+    ask(Asked::Search((3..=most).map(Literal::Number).collect()));
+    ask(Asked::Explain(Literal::Derived(random.index(3))));
+    ask(Asked::Origin(Literal::Derived(0)));
+    ask(Asked::Origin(Literal::Derived(1)));
+    calls
+}
+
 /// Up to the last level and one further, with a literal now and then, and back.
 fn levels(random: &mut Random) -> Vec<Call> {
     let n = 2 + random.below(30);
@@ -430,6 +543,9 @@ fn levels(random: &mut Random) -> Vec<Call> {
             calls.push(Call::Act(Act::plain(Asked::Propagate)));
         }
     }
+    calls.push(Call::Act(Act::plain(search(random, &[]))));
+    calls.push(Call::Act(Act::plain(Asked::TakeBack(Back::Below(random.below(4))))));
+    calls.push(Call::Act(Act::plain(search(random, &[]))));
     calls.push(Call::Act(Act::plain(Asked::TakeBack(Back::Below(1 + random.below(600))))));
     calls.push(Call::Act(Act::plain(Asked::Open)));
     calls.push(Call::Act(Act::plain(Asked::TakeBack(Back::Below(2000)))));

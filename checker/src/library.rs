@@ -6,7 +6,7 @@ use crate::book::{Columns, Request};
 pub trait Library {
     fn need(&self, atoms: u64, sentences: u64, entries: u64) -> u64;
     fn load(&self, area: &mut [u64], atoms: u64, columns: &Columns, next: &mut [i64], null: bool) -> u64;
-    fn call(&self, request: Request, area: &mut [u64], length: u64, level: u64, result: &mut [i64], null: bool) -> u64;
+    fn call(&self, request: &Request, area: &mut [u64], length: u64, level: u64, result: &mut [i64], null: bool) -> u64;
 }
 
 #[cfg(dalelead_linked)]
@@ -72,13 +72,21 @@ mod linked {
             }
         }
 
-        fn call(&self, request: Request, area: &mut [u64], length: u64, level: u64, result: &mut [i64], null: bool) -> u64 {
+        fn call(&self, request: &Request, area: &mut [u64], length: u64, level: u64, result: &mut [i64], null: bool) -> u64 {
             let (words, many) = (lent_mut(area, null), area.len());
             let (to, room) = (lent_mut(result, null), result.len());
             let next = to.cast::<u64>();
             // As above.
             unsafe {
-                match request {
+                match *request {
+                    Request::Search(ref literals) => {
+                        // One literal read too many would be 0.
+                        let list = [&[0], literals.as_slice(), &[0]].concat();
+                        let from = lent(&list[1..list.len() - 1], null);
+                        let answer = dalelead_search(words, many, length, level, from, literals.len(), next, room);
+                        assert!(list[1..list.len() - 1] == *literals, "search changed its list");
+                        answer
+                    }
                     Request::Give(literal) => dalelead_give(words, many, length, level, literal, next, room),
                     Request::Open => dalelead_open(words, many, length, level, next, room),
                     Request::TakeBack(k) => dalelead_take_back(words, many, length, level, k, next, room),

@@ -238,6 +238,7 @@ fn run_lists(library: &dyn Library, seed: Option<u64>) -> Result<(), String> {
     if seed.is_none() {
         every_code_seen(&tally)?;
     }
+    let reached = if seed.is_none() { tally.reach.said().map_err(|what| format!("calls: {what}"))? } else { String::new() };
     println!("calls: codes of each call: {:?}", tally.codes);
     println!("calls: propagate put on {} literals and met {} conflicts", tally.derived, tally.conflicts);
     println!("calls: areas that were not whole: {:?}; changed and whole: {}", tally.broken, tally.whole);
@@ -247,6 +248,7 @@ fn run_lists(library: &dyn Library, seed: Option<u64>) -> Result<(), String> {
         tally.calls,
         (seeds.end - seeds.start) as f64 / seconds
     );
+    println!("calls: {reached}");
     Ok(())
 }
 
@@ -258,6 +260,7 @@ fn every_code_seen(tally: &Tally) -> Result<(), String> {
         (Request::Open, vec![0, 9, 14, 18]),
         (Request::TakeBack(0), vec![0, 9, 15, 18]),
         (Request::Propagate, vec![0, 9, 18]),
+        (Request::Search(Vec::new()), vec![0, 9, 10, 18]),
         (Request::Bounds(0), vec![0, 9, 16, 18]),
         (Request::Explain(0), vec![0, 9, 10, 12, 13, 18]),
         (Request::ExplainConflict(0), vec![0, 9, 16, 17, 18]),
@@ -266,6 +269,7 @@ fn every_code_seen(tally: &Tally) -> Result<(), String> {
     ] {
         wanted.push((calls::name(&request), codes));
     }
+    wanted.extend(drive::SEARCHES.map(|way| (way, vec![0])));
     for (name, codes) in wanted {
         for code in codes {
             let many = tally.codes.get(&(name, code)).copied().unwrap_or(0);

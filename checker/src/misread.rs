@@ -49,7 +49,7 @@ pub enum Misread {
     TooManyTogether,
 }
 
-pub const MISREADS: [Misread; 20] = [
+pub const MISREADS: [Misread; 12] = [
     Misread::CrLfRefused,
     Misread::StarBehindBlanks,
     Misread::NineteenDigits,
@@ -62,6 +62,10 @@ pub const MISREADS: [Misread; 20] = [
     Misread::SentencesTooFew,
     Misread::CountsGiven,
     Misread::TermsTogether,
+];
+
+/// Those that show in the largest texts only.
+pub const MISLISTED: [Misread; 8] = [
     Misread::Page,
     Misread::ListingCut,
     Misread::CountModulo,

@@ -46,6 +46,14 @@ pub fn changed(words: &[u64], book: &Book, change: &Change) -> Vec<u64> {
             }
             new
         }
+        Change::Level(level) => {
+            let at_level = Book { level: book.level.max(*level), ..book.clone() };
+            let laid = whole::lay(&at_level, &vec![true; book.sentences.len()]);
+            if new.len() >= laid.len() {
+                new[..laid.len()].copy_from_slice(&laid);
+            }
+            new
+        }
         Change::Random(seed) => {
             random_words(&mut new, &mut Random::new(*seed));
             new

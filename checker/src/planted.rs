@@ -7,15 +7,15 @@ use crate::console::{self, Slip, SLIPS};
 use crate::desk;
 use crate::drive;
 use crate::generate;
-use crate::misread::{Own, MISREADS};
+use crate::misread::{Misread, Own, MISLISTED, MISREADS};
 use crate::programs::{compare, describe, describe_with, expected, shorter, Expected, Program};
 use crate::scripts;
 use crate::shrink;
-use crate::standin::{Fault, Odd, Standin};
+use crate::standin::{Fault, Odd, Standin, ASTRAY};
 use crate::texts;
 
 /// The time for making a list or text shorter.
-const TIME: Duration = Duration::from_millis(300);
+const TIME: Duration = Duration::from_millis(100);
 
 const FAULTS: [Fault; 26] = [
     Fault::MarksClearedForGood,
@@ -92,18 +92,17 @@ const ODD: [Odd; 10] = [
 pub fn run(lists: u64, texts: usize, scripts: usize, loud: bool) -> Result<Vec<String>, String> {
     let mut said = Vec::new();
     let rules = RULES.iter().map(|rule| Fault::Without(rule));
-    for fault in FAULTS.into_iter().chain(rules).chain(ODD.map(Fault::Strict)) {
+    for fault in FAULTS.into_iter().chain(ASTRAY.map(Fault::Search)).chain(rules).chain(ODD.map(Fault::Strict)) {
         said.push(find(fault, lists, loud)?);
     }
-    let (texts, ..) = expected(texts::texts(1, texts));
+    let (mut texts, ..) = expected(texts::texts(1, texts));
     for misread in MISREADS {
-        let program = Own(misread);
-        let difference = compare(&program, &texts).ok_or(format!("{misread:?} was not found"))?;
-        let found = shorter(&program, TIME, difference, &texts);
-        said.push(format!("{misread:?}: found, {} bytes left of {}", found.text.len(), found.name));
-        if loud {
-            said.push(describe(&found));
-        }
+        said.push(find_misread(misread, &texts, loud)?);
+    }
+    // The largest texts come last.
+    texts.reverse();
+    for misread in MISLISTED {
+        said.push(find_misread(misread, &texts, loud)?);
     }
     let (scripts, _) = desk::expected(scripts::scripts(scripts));
     for slip in SLIPS {
@@ -114,6 +113,14 @@ pub fn run(lists: u64, texts: usize, scripts: usize, loud: bool) -> Result<Vec<S
     let late = desk::Desk::new(vec![own, "answer".into(), "late".into()], Duration::from_millis(500));
     said.push(find_slip(&late, Slip::Late, &scripts, loud)?);
     Ok(said)
+}
+
+fn find_misread(misread: Misread, texts: &[Expected], loud: bool) -> Result<String, String> {
+    let program = Own(misread);
+    let difference = compare(&program, texts).ok_or(format!("{misread:?} was not found"))?;
+    let found = shorter(&program, TIME, difference, texts);
+    let rest = if loud { format!("\n{}", describe(&found)) } else { String::new() };
+    Ok(format!("{misread:?}: found, {} bytes left of {}{rest}", found.text.len(), found.name))
 }
 
 fn find_slip(program: &dyn Program, slip: Slip, scripts: &[Expected], loud: bool) -> Result<String, String> {

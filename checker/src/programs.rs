@@ -13,7 +13,7 @@ use crate::listing;
 use crate::meaning::MOST_ENTRIES;
 use crate::opb::{read, Plan};
 use crate::reach::{self, Reach};
-use crate::shrink::shorten;
+use crate::shrink::shorten_while;
 use crate::texts::Text;
 
 /// A program under test: what it prints for a text.
@@ -173,8 +173,8 @@ pub fn compare(program: &dyn Program, texts: &[Expected]) -> Option<Difference> 
 /// in the first line made to fit, and then bytes. Where the text is long, a short one of the others comes first if it differs too.
 pub fn shorter(program: &dyn Program, time: Duration, difference: Difference, others: &[Expected]) -> Difference {
     let start = Instant::now();
-    let differs =
-        |text: &[u8], turn: usize| start.elapsed() < time && program.print(text, turn).as_deref() != Ok(listing::program(text).as_bytes());
+    let left = || start.elapsed() < time;
+    let differs = |text: &[u8], turn: usize| left() && program.print(text, turn).as_deref() != Ok(listing::program(text).as_bytes());
     let mut best = difference;
     if best.text.len() > 200 {
         let short = others.iter().map(|other| &other.text).filter(|text| text.bytes.len() <= 200);
@@ -185,11 +185,11 @@ pub fn shorter(program: &dyn Program, time: Duration, difference: Difference, ot
     }
     let turn = if differs(&best.text, 0) { 0 } else { 1 };
     let (first, constraints) = parts(&best.text);
-    let kept = shorten(&constraints, &mut |kept| differs(&together(&first, kept), turn));
+    let kept = shorten_while(&constraints, &left, &mut |kept| differs(&together(&first, kept), turn));
     if differs(&together(&first, &kept), turn) {
         best.text = together(&first, &kept);
     }
-    best.text = shorten(&best.text, &mut |text| differs(text, turn));
+    best.text = shorten_while(&best.text, &left, &mut |text| differs(text, turn));
     best.printed = program.print(&best.text, turn);
     best
 }

@@ -33,6 +33,22 @@ pub const CONSOLE: Floors = &[
     ("bytes of a line", 65_536),
 ];
 
+/// Over the calls with code 0.
+pub const CALLS: Floors = &[
+    ("sentences loaded", 256),
+    ("entries loaded", 4_096),
+    ("rows", 1_024),
+    ("levels", 1_024),
+    ("literals derived by a propagate", 1_023),
+    ("literals derived by a search", 1_022),
+    ("literals of a search's list", 1_024),
+    ("literals gone through by a search", 1_024),
+    ("literals tried by a search", 1_021),
+    ("literals of an explanation", 1_023),
+    ("literals of a conflict's explanation", 1_023),
+    ("literals of an origin", 1_022),
+];
+
 pub struct Reach {
     floors: Floors,
     largest: BTreeMap<&'static str, u64>,

@@ -6,7 +6,7 @@ use std::fs;
 use std::path::Path;
 
 use crate::assignments::{self, Said};
-use crate::book::{load, Book, Columns, Request, Row};
+use crate::book::{load, Book, Columns, Reply, Request, Row};
 use crate::direct;
 use crate::generate;
 use crate::listing;
@@ -30,7 +30,9 @@ macro_rules! equal {
 
 pub fn run(folder: Option<&Path>) -> Result<Vec<String>, String> {
     let mut said = vec![merged_means_the_same()?, direct_agrees()?, propagate_agrees()?, reports_agree()?, areas_read_again()?];
+    said.push(searches_agree()?);
     said.push(examples()?);
+    said.push(searches()?);
     said.push(limits()?);
     said.push(readings()?);
     match folder {
@@ -131,6 +133,45 @@ fn propagate_agrees() -> Result<String, String> {
         equal!(format!("propagate {i}, {sentences:?}"), book, slow);
     }
     Ok(format!("10000 propagates agree with the definition, {derived} literals derived"))
+}
+
+/// A search is the calls propagate, open and give one behind another, each with its own refusals.
+fn searches_agree() -> Result<String, String> {
+    let mut random = Random::new(6);
+    let (mut conflicts, mut highest) = (0, 0);
+    for i in 0..10_000 {
+        let (_, mut book) = random_book(&mut random, 12);
+        if random.chance(4) {
+            book.level = book.level.max(MOST_LEVELS - random.below(4));
+        }
+        let n = book.atoms as i64;
+        let literals: Vec<i64> = (0..random.index(12)).map(|_| random.between(1, n) * random.pick(&[1, -1])).collect();
+        let mut slow = book.clone();
+        let mut turn = slow.request(Request::Propagate, 3);
+        let (mut derived, mut gone) = (turn.words[2], 0);
+        let mut rest = literals.iter();
+        while let (0, Some(literal)) = (turn.value, rest.next()) {
+            let mut tried = slow.clone();
+            let opened = tried.request(Request::Open, 2).code;
+            let given = tried.request(Request::Give(*literal), 2).code;
+            if given == 0 && opened == 14 {
+                highest += 1;
+                break;
+            }
+            gone += 1;
+            if given == 0 {
+                slow = tried;
+                turn = slow.request(Request::Propagate, 3);
+                derived += turn.words[2];
+            }
+        }
+        conflicts += (turn.value > 0) as u64;
+        let reply = book.request(Request::Search(literals.clone()), 4);
+        let words = vec![slow.length() as i64, slow.level as i64, derived, gone];
+        equal!(format!("search {i}, {literals:?}"), reply, Reply { code: 0, value: turn.value, words });
+        equal!(format!("search {i}, {literals:?}"), book, slow);
+    }
+    Ok(format!("10000 searches agree with the single calls, {conflicts} to a conflict, {highest} ended by the highest level"))
 }
 
 /// Each explanation of a propagated literal or a conflict is a clause that its sentence implies; each origin is the definition's.
@@ -267,6 +308,40 @@ fn examples() -> Result<String, String> {
     equal!("M12", (book.propagate(), derived(&book)), ((1, 0), vec![2]));
     equal!("M12", book.request(Request::Origin(2), 9).words, [1]);
     Ok("M1 to M12".into())
+}
+
+/// Searches over M4's sentence and two more, with every number written out: 3 forces -2, 4 says the same as 2, and 5 as 3 and 4.
+fn searches() -> Result<String, String> {
+    let three = [one(3, SUM, UPPER, 1, &[(1, 1), (2, 2)]), one(4, SUM, LOWER, 1, &[(1, 2)]), one(5, SUM, LOWER, 2, &[(1, 3), (1, 4)])];
+    let search = |level: u64, trail: &[i64], literals: &[i64], room: usize| -> Result<(u64, u64, Vec<i64>, Vec<i64>), String> {
+        let mut book = given(6, &three, trail)?;
+        book.level = level;
+        let reply = book.request(Request::Search(literals.to_vec()), room);
+        Ok((reply.code, reply.value, reply.words, book.rows.iter().map(|row| row.literal).collect()))
+    };
+    let cases: [(u64, &[i64], &[i64], usize, u64, u64, &[i64], &[i64]); 12] = [
+        // 2 is passed over, its negation being on the trail.
+        (0, &[], &[3, 1, 2, 6], 4, 0, 0, &[6, 3, 3, 4], &[3, -2, -4, -5, 1, 6]),
+        (7, &[], &[4], 9, 0, 0, &[4, 8, 3, 1], &[4, 2, -3, -5]),
+        (0, &[], &[], 4, 0, 0, &[0, 0, 0, 0], &[]),
+        // In conflict at the first propagate, without and with a literal derived before, and behind the second literal.
+        (0, &[3, 2], &[1, 6], 4, 0, 1, &[2, 0, 0, 0], &[3, 2]),
+        (0, &[3, 4], &[1, 6], 4, 0, 2, &[3, 0, 1, 0], &[3, 4, -2]),
+        (0, &[], &[1, 5, 4], 4, 0, 3, &[5, 2, 3, 2], &[1, 5, 3, -2, -4]),
+        // At the highest level literals on the trail are passed over, and the first other one ends it.
+        (1024, &[3, 1], &[2, -1, 4, 6, 3], 4, 0, 0, &[5, 1024, 3, 3], &[3, 1, -2, -4, -5]),
+        (1023, &[1], &[1, 6, -6, 3], 4, 0, 0, &[2, 1024, 0, 3], &[1, 6]),
+        // 10 for any literal of the list, reached or not, and before 18.
+        (0, &[3, 2], &[1, 7], 4, 10, 0, &[], &[3, 2]),
+        (0, &[], &[0], 3, 10, 0, &[], &[]),
+        (1024, &[], &[1, i64::MIN], 4, 10, 0, &[], &[]),
+        (0, &[], &[-6], 3, 18, 4, &[], &[]),
+    ];
+    for (level, trail, literals, room, code, value, words, rows) in cases {
+        let expected = (code, value, words.to_vec(), rows.to_vec());
+        equal!(format!("search over {literals:?} from {trail:?}"), search(level, trail, literals, room)?, expected);
+    }
+    Ok(format!("{} searches with every number written out", cases.len()))
 }
 
 /// The last lines of the yard examples, and the refusals of load on single sentences.

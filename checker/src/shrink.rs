@@ -68,11 +68,18 @@ pub fn list(list: &List, time: Duration, fails: &dyn Fn(&List) -> bool) -> List 
 fn simplify(call: Call, attempt: &mut dyn FnMut(Call) -> bool) {
     match call {
         Call::Act(act) => {
-            attempt(Call::Act(Act::plain(act.asked)));
+            let asked = match &act.asked {
+                Asked::Search(literals) => {
+                    let with = |kept: &[Literal]| Call::Act(Act { asked: Asked::Search(kept.to_vec()), ..act.clone() });
+                    Asked::Search(shorten(literals, &mut |kept| attempt(with(kept))))
+                }
+                asked => asked.clone(),
+            };
+            attempt(Call::Act(Act::plain(asked)));
         }
         Call::Aside(change, acts) => {
             let acts = shorten(&acts, &mut |acts| attempt(Call::Aside(change.clone(), acts.to_vec())));
-            let plain = acts.iter().map(|act| Act::plain(act.asked)).collect();
+            let plain = acts.iter().map(|act| Act::plain(act.asked.clone())).collect();
             attempt(Call::Aside(change.clone(), plain));
             if let Change::Words(words) = change {
                 shorten(&words, &mut |words| attempt(Call::Aside(Change::Words(words.to_vec()), acts.clone())));

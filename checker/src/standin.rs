@@ -2,7 +2,7 @@
 //! with one fault planted into it they are known to find faults.
 
 use crate::assignments::Said;
-use crate::book::{load, marked, need, Book, Columns, Reply, Request, Row};
+use crate::book::{load, marked, need, of_an_atom, Book, Columns, Reply, Request, Row, Searched};
 use crate::direct;
 use crate::library::Library;
 use crate::meaning::*;
@@ -63,10 +63,110 @@ pub enum Fault {
     StaleBounds,
     /// The constant is left out of reported bounds.
     BoundsWithoutConstant,
+    /// The search has a fault of its own.
+    Search(Astray),
     /// One part of the test of wholeness is left out.
     Without(&'static str),
     /// An area is refused that is whole, for being at a limit or odd.
     Strict(Odd),
+}
+
+/// What is wrong with a search.
+#[derive(Clone, Copy, PartialEq, Eq, Debug)]
+pub enum Astray {
+    /// 10 for the literals that are reached only.
+    TenWhenReached,
+    /// 14 where the highest level ends it.
+    Fourteen,
+    /// The literals derived are those of the last propagate.
+    CountsLastTurn,
+    /// The literals tried count as derived.
+    CountsGiven,
+    /// The literal that led to a conflict is not counted as gone through.
+    ConflictNotCounted,
+    /// Literals passed over are not counted as gone through.
+    PassedNotCounted,
+    /// The counters are written though it is refused.
+    RefusedWrites,
+    /// 18 is tested before 10.
+    RoomBeforeTen,
+    /// Three words are enough for what it hands back.
+    RoomOfThree,
+    /// At the highest level it ends at once.
+    EndsAtHighest,
+    /// The first literal is given before anything is propagated.
+    GivesFirst,
+    /// A level is opened for a literal passed over too.
+    OpensForPassed,
+    /// A literal whose negation is on the trail ends it.
+    NegationEnds,
+    /// It goes on after a conflict.
+    GoesOn,
+    /// It goes through the list from the back.
+    Backwards,
+}
+
+pub const ASTRAY: [Astray; 15] = [
+    Astray::TenWhenReached,
+    Astray::Fourteen,
+    Astray::CountsLastTurn,
+    Astray::CountsGiven,
+    Astray::ConflictNotCounted,
+    Astray::PassedNotCounted,
+    Astray::RefusedWrites,
+    Astray::RoomBeforeTen,
+    Astray::RoomOfThree,
+    Astray::EndsAtHighest,
+    Astray::GivesFirst,
+    Astray::OpensForPassed,
+    Astray::NegationEnds,
+    Astray::GoesOn,
+    Astray::Backwards,
+];
+
+impl Astray {
+    /// The search with this fault, where nothing is refused; or the code that it gives all the same.
+    fn search(self, book: &mut Book, literals: &[i64]) -> Result<Searched, u64> {
+        let mut list = literals.to_vec();
+        if self == Astray::Backwards {
+            list.reverse();
+        }
+        let mut turn = if self == Astray::GivesFirst { (0, 0) } else { book.propagate() };
+        let mut searched = Searched { conflict: turn.1, derived: turn.0, gone: 0 };
+        for literal in list {
+            let highest = book.level == MOST_LEVELS;
+            if searched.conflict > 0 && self != Astray::GoesOn || highest && self == Astray::EndsAtHighest {
+                break;
+            }
+            if !of_an_atom(literal, book.atoms) {
+                return Err(10);
+            }
+            if book.on_the_trail(literal) {
+                if self == Astray::NegationEnds && book.place(literal).is_none() {
+                    break;
+                }
+                book.level += (self == Astray::OpensForPassed && !highest) as u64;
+                searched.gone += (self != Astray::PassedNotCounted) as usize;
+                continue;
+            }
+            if highest && self == Astray::Fourteen {
+                return Err(14);
+            }
+            if highest {
+                break;
+            }
+            book.level += 1;
+            book.rows.push(Row { literal, level: book.level, reason: 0 });
+            turn = book.propagate();
+            searched.derived += turn.0 + (self == Astray::CountsGiven) as usize;
+            searched.conflict = turn.1;
+            searched.gone += (turn.1 == 0 || self != Astray::ConflictNotCounted) as usize;
+        }
+        if self == Astray::CountsLastTurn {
+            searched.derived = turn.0;
+        }
+        Ok(searched)
+    }
 }
 
 /// Whole areas that a test of wholeness might turn away wrongly.
@@ -207,6 +307,34 @@ impl Standin {
     }
 }
 
+/// The reply of a search with a fault, in place of the right one.
+fn wrong_search(astray: Astray, book: &mut Book, literals: &[i64], right: Reply, result: &mut [i64]) -> Reply {
+    let room = result.len();
+    match (astray, right.code) {
+        (Astray::RoomBeforeTen, 10) if room < 4 => return Reply::refused(18, 4),
+        (Astray::RefusedWrites, 10 | 18) if room >= 2 => {
+            result[..2].copy_from_slice(&[book.length() as i64, book.level as i64]);
+            return right;
+        }
+        (Astray::TenWhenReached, 10) if room >= 4 => (),
+        (Astray::RoomOfThree, 18) if room == 3 => (),
+        (_, 1..) => return right,
+        _ => (),
+    }
+    let before = book.clone();
+    match astray.search(book, literals) {
+        Err(code) => {
+            *book = before;
+            Reply::refused(code, 0)
+        }
+        Ok(Searched { conflict, derived, gone }) => {
+            let mut words = vec![book.length() as i64, book.level as i64, derived as i64, gone as i64];
+            words.truncate(room);
+            Reply { code: 0, value: conflict, words }
+        }
+    }
+}
+
 /// Whether a sentence forces this literal: it is open, and its negation leaves a conflict.
 fn forces(sentence: &Merged, values: &[Option<bool>], literal: i64) -> bool {
     let atom = literal.unsigned_abs() as usize;
@@ -230,7 +358,7 @@ impl Library for Standin {
         reply.number()
     }
 
-    fn call(&self, request: Request, area: &mut [u64], length: u64, level: u64, result: &mut [i64], _null: bool) -> u64 {
+    fn call(&self, request: &Request, area: &mut [u64], length: u64, level: u64, result: &mut [i64], _null: bool) -> u64 {
         let left_out = if let Fault::Without(rule) = self.fault { rule } else { "" };
         let Ok(mut book) = whole::read_without(left_out, area, length, level) else {
             return 9;
@@ -243,59 +371,63 @@ impl Library for Standin {
         }
         let room = result.len();
         let before = book.clone();
-        let mut reply = book.request(request, room);
+        let mut reply = book.request(request.clone(), room);
+        if let (Fault::Search(astray), Request::Search(literals)) = (self.fault, request) {
+            book = before.clone();
+            reply = wrong_search(astray, &mut book, literals, reply, result);
+        }
         match (self.fault, request) {
-            (Fault::RefusedWrites, Request::Give(_)) if reply.code > 0 && room >= 2 => result[0] = length as i64,
-            (Fault::RoomBeforeConflict, Request::ExplainConflict(_)) if reply.code == 17 && room == 0 => {
+            (Fault::RefusedWrites, &Request::Give(_)) if reply.code > 0 && room >= 2 => result[0] = length as i64,
+            (Fault::RoomBeforeConflict, &Request::ExplainConflict(_)) if reply.code == 17 && room == 0 => {
                 reply.code = 18;
             }
-            (Fault::EitherSignIsOn, Request::Origin(literal)) if reply.code == 12 && book.place(-literal).is_some() => {
-                return self.call(Request::Origin(-literal), area, length, level, result, false);
+            (Fault::EitherSignIsOn, &Request::Origin(literal)) if reply.code == 12 && book.place(-literal).is_some() => {
+                return self.call(&Request::Origin(-literal), area, length, level, result, false);
             }
-            (Fault::OneLevelFewer, Request::Open) if level == MOST_LEVELS - 1 => return 14,
+            (Fault::OneLevelFewer, &Request::Open) if level == MOST_LEVELS - 1 => return 14,
             _ => (),
         }
         if reply.code > 0 {
             return reply.number();
         }
         match (self.fault, request) {
-            (_, Request::Propagate) => {
+            (_, &Request::Propagate) => {
                 book = before.clone();
                 let (put_on, conflict) = self.wrong_propagate(&mut book, &marks);
                 let put_on = if self.fault == Fault::CountsTheTrail { book.rows.len() } else { put_on };
                 reply.value = conflict;
                 reply.words = vec![book.length() as i64, book.level as i64, put_on as i64];
             }
-            (Fault::TakesBackOneMore, Request::TakeBack(k)) if k == before.level && k > 0 => {
+            (Fault::TakesBackOneMore, &Request::TakeBack(k)) if k == before.level && k > 0 => {
                 book.rows.retain(|row| row.level < k);
                 reply.words[0] = book.length() as i64;
             }
-            (Fault::ExplainsWithLater, Request::Explain(literal)) => {
+            (Fault::ExplainsWithLater, &Request::Explain(literal)) => {
                 let all = book.negated(book.rows[book.place(literal).unwrap()].reason, book.rows.len());
                 reply.words.truncate(1);
                 reply.words.extend(all.into_iter().filter(|other| other.unsigned_abs() != literal.unsigned_abs()));
                 reply.words.truncate(room);
                 reply.value = reply.words.len() as u64;
             }
-            (Fault::ExplainsWithoutHead, Request::ExplainConflict(sentence)) => {
+            (Fault::ExplainsWithoutHead, &Request::ExplainConflict(sentence)) => {
                 let head = book.sentences[sentence as usize - 1].head;
                 reply.words.retain(|literal| literal.unsigned_abs() != head);
                 reply.value = reply.words.len() as u64;
             }
-            (Fault::OriginBackwards, Request::Origin(_)) => reply.words.reverse(),
-            (Fault::OriginOfOneStep, Request::Origin(literal)) if book.rows[book.place(literal).unwrap()].reason > 0 => {
+            (Fault::OriginBackwards, &Request::Origin(_)) => reply.words.reverse(),
+            (Fault::OriginOfOneStep, &Request::Origin(literal)) if book.rows[book.place(literal).unwrap()].reason > 0 => {
                 let at = book.place(literal).unwrap();
                 let given = |l: &i64| book.place(-*l).is_some_and(|place| book.rows[place].reason == 0);
                 let list: Vec<i64> = book.negated(book.rows[at].reason, at).into_iter().filter(given).map(|l| -l).collect();
                 reply.words.retain(|literal| list.contains(literal));
                 reply.value = reply.words.len() as u64;
             }
-            (Fault::MaxKeepsTop, Request::Bounds(sentence)) if book.sentences[sentence as usize - 1].kind == MAX => {
+            (Fault::MaxKeepsTop, &Request::Bounds(sentence)) if book.sentences[sentence as usize - 1].kind == MAX => {
                 let open = vec![None; book.atoms as usize + 1];
                 let top = direct::range(&book.sentences[sentence as usize - 1], &open).1;
                 reply.words[2..].copy_from_slice(&marked(top));
             }
-            (Fault::BoundsWithoutConstant, Request::Bounds(sentence)) => {
+            (Fault::BoundsWithoutConstant, &Request::Bounds(sentence)) => {
                 let constant = book.sentences[sentence as usize - 1].constant as i64;
                 reply.words[1] -= constant;
                 reply.words[3] -= constant;
@@ -306,7 +438,7 @@ impl Library for Standin {
             if self.fault == Fault::MarksClearedForGood {
                 if matches!(request, Request::Propagate) && reply.value == 0 {
                     marks.fill(false);
-                } else if matches!(request, Request::Give(_)) {
+                } else if matches!(request, Request::Give(_) | Request::Search(_)) {
                     marks.fill(true);
                 }
             } else {

@@ -85,9 +85,24 @@ macro_rules! steps {
     ($name:ident, $request:expr $(, $argument:ident: $type:ty)?) => {
         #[no_mangle]
         pub unsafe extern "C" fn $name(area: *mut u64, area_len: usize, length: u64, level: u64 $(, $argument: $type)?, next: *mut u64, next_len: usize) -> u64 {
-            STANDIN.call($request, lent_mut(area, area_len), length, level, lent_mut(next.cast(), next_len), false)
+            STANDIN.call(&$request, lent_mut(area, area_len), length, level, lent_mut(next.cast(), next_len), false)
         }
     };
+}
+
+#[no_mangle]
+pub unsafe extern "C" fn dalelead_search(
+    area: *mut u64,
+    area_len: usize,
+    length: u64,
+    level: u64,
+    literals: *const i64,
+    literals_len: usize,
+    next: *mut u64,
+    next_len: usize,
+) -> u64 {
+    let request = Request::Search(lent(literals, literals_len).to_vec());
+    STANDIN.call(&request, lent_mut(area, area_len), length, level, lent_mut(next.cast(), next_len), false)
 }
 
 /// A report: the area is only read.
@@ -96,7 +111,7 @@ macro_rules! reports {
         #[no_mangle]
         pub unsafe extern "C" fn $name(area: *const u64, area_len: usize, length: u64, level: u64 $(, $argument: $type)?, list: *mut i64, list_len: usize) -> u64 {
             let mut words = lent(area, area_len).to_vec();
-            STANDIN.call($request, &mut words, length, level, lent_mut(list, list_len), false)
+            STANDIN.call(&$request, &mut words, length, level, lent_mut(list, list_len), false)
         }
     };
 }
