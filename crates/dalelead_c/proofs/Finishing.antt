@@ -6,11 +6,12 @@ use mathlib.Core.List.{List, [], _∷_}
 use Prim.Native.Nat.{ℕ, zero, suc, _-_, _≤_}
 use native.Mathlib.Omega.{arith}
 use lib.ListN.{length}
+use lib.IntN.{ℤ}
 use lib.Dec.{T, eqb, eqb→eq}
 use borrow.Author.Tests.{eqb-false}
 use Rattle.types.specs.Limits.{base}
 use Rattle.book.specs.Rows.{Row}
-use Rattle.book.specs.Table.{Call, take-back, propagate, Paper, paper, propagated, Outcome, ended, reply}
+use Rattle.book.specs.Table.{Call, take-back, propagate, search, Paper, paper, propagated, Outcome, ended, reply}
 use Rattle.book.specs.Book.{Counters}
 use Rattle.area.specs.Layout.{atoms-of, length-of, level-of, rows-of}
 use Rattle.area.specs.Whole.{Whole}
@@ -21,9 +22,9 @@ use Rattle.step.proofs.Rows.{up-to-all}
 use Rattle.levels.proofs.Replies.{take-back-passes}
 use Rattle.propagate.specs.Propagate.{propagated-paper, counters-of}
 use Rattle.propagate.specs.declared.Propagated.{Propagated}
-use Rattle.dalelead_c.specs.Interface.{packed, fronted, next-counters, next-counted, Changes}
+use Rattle.dalelead_c.specs.Interface.{packed, fronted, next-counters, next-counted, next-searched, Changes}
 use Rattle.dalelead_c.specs.Inner.{Finished}
-use Rattle.dalelead_c.proofs.Telling.{right-true, Plain, take-back-plain, propagate-plain}
+use Rattle.dalelead_c.proofs.Telling.{right-true, Plain, take-back-plain, propagate-plain, search-plain}
 use Rattle.dalelead_c.proofs.Changing.{moved-counters, changes-refused, changes-done}
 
 -- ---- the counters are those of the outcome
@@ -112,3 +113,18 @@ module _ (w w′ : List ℕ) (c c′ : Counters) (p : Paper) (out : List ℕ) (a
       ∙ ap {A = ℕ} (λ n. fronted (length (reply (area-state base w) propagate .rows) ∷ reply (area-state base w) propagate .level ∷ n ∷ []) out)
       (count-is g))
       e
+
+-- ---- search
+
+pub changes-searched : (w w′ : List ℕ) (c c′ : Counters) (ls : List ℤ) (p : Paper) (out out′ : List ℕ) (r : ℕ) → Acts base w w′ c c′ (search ls) p → p .code ≡ 0
+    → 4 ≤ length out → out′ ≡ fronted (c′ .length-is ∷ c′ .level-is ∷ p .value ∷ p .gone ∷ []) out → r ≡ packed 0 (p .sentence)
+    → Changes w w′ c (search ls) next-searched out out′ r
+changes-searched w w′ c c′ ls p out out′ r a passed room front e =
+    let o = reply (area-state base w) (search ls) in
+    let plain = search-plain (area-state base w) ls in
+    let after : Whole base w c → CountersOf o c′ = λ g. moved-counters w c (search ls) next-searched out w′ c′ p a plain passed g refl in
+    changes-done w c (search ls) next-searched out w′ c′ p a 4 out′ r plain passed refl room after
+    (λ g. front
+    ∙ ap₂ {A = ℕ} {B = ℕ} (λ m n. fronted (m ∷ n ∷ p .value ∷ p .gone ∷ []) out) (sym (after g .0)) (sym (after g .1))
+    ∙ ap (λ (y : Paper). fronted (length (o .rows) ∷ o .level ∷ y .value ∷ y .gone ∷ []) out) (a .answer .told g))
+    e

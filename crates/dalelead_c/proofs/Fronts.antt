@@ -22,12 +22,13 @@ three-front (x ∷ []) a b c h = let f : ⊥ = omega arith in absurd f
 three-front (x ∷ y ∷ []) a b c h = let f : ⊥ = omega arith in absurd f
 three-front (x ∷ y ∷ z ∷ xs) a b c h = refl
 
-four-front : (xs : List ℤ) (a b c d : ℤ) → 4 ≤ length xs → set (set (set (set xs 0 a) 1 b) 2 c) 3 d ≡ fronted (a ∷ b ∷ c ∷ d ∷ []) xs
-four-front [] a b c d h = let f : ⊥ = omega arith in absurd f
-four-front (x ∷ []) a b c d h = let f : ⊥ = omega arith in absurd f
-four-front (x ∷ y ∷ []) a b c d h = let f : ⊥ = omega arith in absurd f
-four-front (x ∷ y ∷ z ∷ []) a b c d h = let f : ⊥ = omega arith in absurd f
-four-front (x ∷ y ∷ z ∷ u ∷ xs) a b c d h = refl
+module _ {A : Type 0} where
+  pub four-front : (xs : List A) (a b c d : A) → 4 ≤ length xs → set (set (set (set xs 0 a) 1 b) 2 c) 3 d ≡ fronted (a ∷ b ∷ c ∷ d ∷ []) xs
+  four-front [] a b c d h = let f : ⊥ = omega arith in absurd f
+  four-front (x ∷ []) a b c d h = let f : ⊥ = omega arith in absurd f
+  four-front (x ∷ y ∷ []) a b c d h = let f : ⊥ = omega arith in absurd f
+  four-front (x ∷ y ∷ z ∷ []) a b c d h = let f : ⊥ = omega arith in absurd f
+  four-front (x ∷ y ∷ z ∷ u ∷ xs) a b c d h = refl
 
 -- the four stores of the code, marks first
 pub bounds-front : (xs : List ℤ) (m : ℕ) (a : ℤ) (n : ℕ) (b : ℤ) → 4 ≤ length xs → m ≤ 2 → n ≤ 2 → SFits w64 a → SFits w64 b

@@ -8,7 +8,7 @@ use lib.ListN.{length}
 use lib.IntN.{ℤ, pos}
 use Rattle.types.specs.Limits.{base}
 use Rattle.numbers.specs.Extended.{Extended, below, at, above}
-use Rattle.book.specs.Table.{Call, bounds, Answer, refused, done, still, clash, between, listed, mark, Paper, paper, Outcome, reply}
+use Rattle.book.specs.Table.{Call, bounds, Answer, refused, done, still, clash, searched, between, listed, mark, Paper, paper, Outcome, reply}
 use Rattle.book.specs.Book.{Counters}
 use Rattle.area.specs.Whole.{Whole}
 use Rattle.calls.specs.Calls.{area-state, Answered, Lists}
@@ -35,6 +35,7 @@ Ranged (refused c n) = ¬ (c ≡ 0)
 Ranged done = ⊥
 Ranged (still n) = ⊥
 Ranged (clash k n) = ⊥
+Ranged (searched k n g) = ⊥
 Ranged (between v w) = Unit {0}
 Ranged (listed ls) = ⊥
 
@@ -43,6 +44,7 @@ ranged-plain (refused c n) h = h
 ranged-plain done h = tt
 ranged-plain (still n) h = tt
 ranged-plain (clash k n) h = tt
+ranged-plain (searched k n g) h = tt
 ranged-plain (between v w) h = tt
 ranged-plain (listed ls) h = h
 
@@ -55,6 +57,7 @@ ranged-words (refused c n) h e = absurd (h e)
 ranged-words done h e = absurd h
 ranged-words (still n) h e = absurd h
 ranged-words (clash k n) h e = absurd h
+ranged-words (searched k n g) h e = absurd h
 ranged-words (between v w) h e = refl
 ranged-words (listed ls) h e = absurd h
 
@@ -63,6 +66,7 @@ ranged-sentence (refused c n) h = refl
 ranged-sentence done h = refl
 ranged-sentence (still n) h = refl
 ranged-sentence (clash k n) h = absurd h
+ranged-sentence (searched k n g) h = absurd h
 ranged-sentence (between v w) h = refl
 ranged-sentence (listed ls) h = refl
 
@@ -79,6 +83,7 @@ answer-marked (refused c n) = (omega arith, omega arith)
 answer-marked done = (omega arith, omega arith)
 answer-marked (still n) = (omega arith, omega arith)
 answer-marked (clash k n) = (omega arith, omega arith)
+answer-marked (searched k n g) = (omega arith, omega arith)
 answer-marked (between v w) = (mark-small v, mark-small w)
 answer-marked (listed ls) = (omega arith, omega arith)
 

@@ -1,6 +1,6 @@
 -- Codes and values are small, so that the one number of both fits a word: a conflict names one of the sentences, a list has no more numbers
 -- than three for each row or a sentence's scope and one more, and load's refusals name one of the sentences.
-use mathlib.Core.Path.{_≡_, refl, ap, subst}
+use mathlib.Core.Path.{_≡_, refl, ap, _∙_, subst}
 use mathlib.Core.Bool.{Bool, true, false, cond}
 use mathlib.Core.List.{List, [], _∷_, _++_, map}
 use mathlib.Core.Logic.{⊎-elim}
@@ -8,14 +8,15 @@ use Prim.Native.Nat.{ℕ, zero, suc, _+_, _-_, _<_, _≤_}
 use native.Mathlib.Omega.{arith}
 use lib.ListN.{length, length-append, length-map}
 use lib.IntN.{ℤ, negℤ}
+use lib.Dec.{leb}
 use Rattle.types.specs.Limits.{base}
 use Rattle.numbers.proofs.Words.{cases}
-use Rattle.meaning.specs.Meaning.{Each, Said, silent, conflict, forced}
+use Rattle.meaning.specs.Meaning.{atom, Each, Said, silent, conflict, forced}
 use Rattle.meaning.specs.Merge.{Rule, scope}
 use Rattle.book.specs.Rows.{Row, row, trail, causes, row-of, numbered, comes-from, in-order}
-use Rattle.book.specs.Table.{Call, propagate, explain, explain-conflict, origin, list-trail, Paper, paper, Judged, scopes, State, Speech, nothing, objects, derives, spoken, speech, run, propagated, result, Outcome, ended, reply}
+use Rattle.book.specs.Table.{Call, propagate, search, explain, explain-conflict, origin, list-trail, Paper, paper, Judged, scopes, State, Speech, nothing, objects, derives, spoken, speech, run, propagated, result, on-trail, Outcome, ended, End, end, apart, put-on, propagating, following, turning, tried, trying, searching, reply}
 use Rattle.book.specs.Book.{Counters, judged-all}
-use Rattle.book.proofs.Keeps.{next}
+use Rattle.book.proofs.Keeps.{next, state-at}
 use Rattle.area.specs.Layout.{atoms-of, sentences-of, length-of, rows-of, record-at, rule-at, rules-from, theory-of}
 use Rattle.area.specs.Whole.{Whole}
 use Rattle.trail_check.proofs.Rows.{rows-length}
@@ -76,6 +77,66 @@ module _ (w : List ℕ) where
   conflict-small c p a =
       settled w c (p .sentence) 65535 (λ g. omega (arith, ap (λ (y : Paper). y .sentence) (a .told g), reply-sentence))
       (λ b. omega (arith, ap (λ (y : Paper). y .sentence) (a .broken b)))
+
+-- ---- a search's conflict is one of propagate's
+
+module _ (x : Bool) (n top : ℕ) (js : List Judged) where
+  abbrev here : ℕ → List Row → State
+  here v rs = state-at x n top js v rs
+
+  turning-below : (d g v : ℕ) (rs : List Row) (on : State → ℕ → End) → ((rs′ : List Row) (e : ℕ) → on (here v rs′) e .sentence ≤ length js)
+      → turning (here v rs) d g on .sentence ≤ length js
+  turning-below d g v rs on f = go (propagated (here v rs) .sentence)
+    where
+      q : State
+      q = here v rs
+
+      go : (k : ℕ) → apart k (end (propagated q .sentence) (d + put-on q) g (following q (propagating q))) (on (following q (propagating q)) (d + put-on q)) .sentence ≤ length js
+      go zero = f (propagated q .rows) (d + put-on q)
+      go (suc k) = run-below js v (suc n) rs
+
+  trying-below : (ls : List ℤ) (d g v : ℕ) (rs : List Row) → trying (here v rs) d g ls .sentence ≤ length js
+  unfolding trying
+  trying-below [] d g v rs = omega arith
+  trying-below (l ∷ ls) d g v rs =
+      go (on-trail (here v rs) (atom l)) (leb top v) (trying-below ls d (suc g) v rs) (λ rs′ e. trying-below ls e (suc g) (suc v) rs′)
+    where
+      go : (on high : Bool) → trying (here v rs) d (suc g) ls .sentence ≤ length js → ((rs′ : List Row) (e : ℕ) → trying (here (suc v) rs′) e (suc g) ls .sentence ≤ length js)
+          → cond on (trying (here v rs) d (suc g) ls) (cond high (end 0 d g (here v rs)) (turning (tried (here v rs) l) d (suc g) (λ p e. trying p e (suc g) ls))) .sentence ≤ length js
+      go true high past more = past
+      go false true past more = omega arith
+      go false false past more = turning-below d (suc g) (suc v) (row l (suc v) 0 ∷ rs) (λ p e. trying p e (suc g) ls) more
+
+module _ (w : List ℕ) (ls : List ℤ) where
+  search-sentence : paper (reply (area-state base w) (search ls) .answer) .sentence ≤ 65535
+  search-sentence =
+      let q = area-state base w in
+      reply-by (λ o. paper (o .answer) .sentence ≤ 65535) q (search ls) (omega arith) (omega arith, tt)
+      (omega (
+        arith,
+        judged-count w,
+        turning-below false (q .atoms) (q .levels) (q .sentences) 0 0 (q .level) (q .rows) (λ p e. trying p e 0 ls)
+            (λ rs′ e. trying-below false (q .atoms) (q .levels) (q .sentences) ls e 0 (q .level) rs′),
+      ))
+
+  pub search-small : (c : Counters) (p : Paper) → Answered base w c (search ls) p → p .sentence ≤ 65535
+  search-small c p a =
+      settled w c (p .sentence) 65535 (λ g. omega (arith, ap (λ (y : Paper). y .sentence) (a .told g), search-sentence))
+      (λ b. omega (arith, ap (λ (y : Paper). y .sentence) (a .broken b)))
+
+  -- refused, it comes with no value
+  refused-bare : ¬ (paper (reply (area-state base w) (search ls) .answer) .code ≡ 0) → paper (reply (area-state base w) (search ls) .answer) .value ≤ 0
+  refused-bare =
+      reply-by (λ o. ¬ (paper (o .answer) .code ≡ 0) → paper (o .answer) .value ≤ 0) (area-state base w) (search ls) (λ d. omega arith) ((λ d. omega arith), tt)
+      (λ d. absurd (d refl))
+
+  pub search-bare : (c : Counters) (p : Paper) → Answered base w c (search ls) p → ¬ (p .code ≡ 0) → p .value ≡ 0
+  search-bare c p a d =
+      let few : p .value ≤ 0 =
+      settled w c (p .value) 0
+      (λ g. omega (arith, ap (λ (y : Paper). y .value) (a .told g), refused-bare (λ e. d (ap (λ (y : Paper). y .code) (a .told g) ∙ e))))
+      (λ b. omega (arith, ap (λ (y : Paper). y .value) (a .broken b))) in
+      omega (arith, few)
 
 -- ---- the lists
 

@@ -10,7 +10,7 @@ use lib.IntN.{ℤ}
 use lib.Dec.{T, ltb}
 use borrow.Author.Tests.{lt-ltb, le-ltb}
 use Rattle.meaning.specs.Meaning.{Each}
-use Rattle.book.specs.Table.{Call, give, open-level, take-back, propagate, Answer, refused, done, still, clash, between, listed, paper, State, propagated, Refusal, refusal, refusals, Outcome, unchanged, ended, effect, decided, reply}
+use Rattle.book.specs.Table.{Call, give, open-level, take-back, propagate, search, Answer, refused, done, still, clash, searched, between, listed, paper, State, propagated, Refusal, refusal, refusals, Outcome, unchanged, ended, effect, decided, reply}
 use Rattle.calls.specs.Calls.{is-refusal}
 use Rattle.dalelead_c.specs.Interface.{packed, told, refuses}
 
@@ -54,6 +54,7 @@ Plain (refused c n) = ¬ (c ≡ 0)
 Plain done = Unit {0}
 Plain (still n) = Unit {0}
 Plain (clash k n) = Unit {0}
+Plain (searched k n g) = Unit {0}
 Plain (between v w) = Unit {0}
 Plain (listed ls) = ⊥
 
@@ -83,6 +84,9 @@ module _ (q : State) where
   pub propagate-plain : Plain (reply q propagate .answer)
   propagate-plain = reply-by Plainly q propagate nine tt (ended-plain (propagated q .sentence) (length (propagated q .rows) - length (q .rows)))
 
+  pub search-plain : (ls : List ℤ) → Plain (reply q (search ls) .answer)
+  search-plain ls = reply-by Plainly q (search ls) nine (coded 10 (omega arith), tt) tt
+
 -- ---- refused
 
 pub refused-is : (a : Answer) → ¬ (paper a .code ≡ 0) → is-refusal a ≡ true
@@ -90,6 +94,7 @@ refused-is (refused c n) d = refl
 refused-is done d = absurd (d refl)
 refused-is (still n) d = absurd (d refl)
 refused-is (clash k n) d = absurd (d refl)
+refused-is (searched k n g) d = absurd (d refl)
 refused-is (between v w) d = absurd (d refl)
 refused-is (listed ls) d = absurd (d refl)
 
@@ -98,6 +103,7 @@ refused-told (refused c n) needed room d = refl
 refused-told done needed room d = absurd (d refl)
 refused-told (still n) needed room d = absurd (d refl)
 refused-told (clash k n) needed room d = absurd (d refl)
+refused-told (searched k n g) needed room d = absurd (d refl)
 refused-told (between v w) needed room d = absurd (d refl)
 refused-told (listed ls) needed room d = absurd (d refl)
 
@@ -108,6 +114,7 @@ passed-is (refused c n) p e = absurd (p e)
 passed-is done p e = refl
 passed-is (still n) p e = refl
 passed-is (clash k n) p e = refl
+passed-is (searched k n g) p e = refl
 passed-is (between v w) p e = refl
 passed-is (listed ls) p e = absurd p
 
@@ -118,6 +125,7 @@ passed-told (refused c n) needed room p e = absurd (p e)
 passed-told done needed room p e = refl
 passed-told (still n) needed room p e = refl
 passed-told (clash k n) needed room p e = refl
+passed-told (searched k n g) needed room p e = refl
 passed-told (between v w) needed room p e = refl
 passed-told (listed ls) needed room p e = absurd p
 
@@ -143,6 +151,7 @@ told-few a needed room h = go a (lt-ltb 0 needed (omega arith)) (lt-ltb room nee
     go done x y = same (packed 0 0) x y
     go (still n) x y = same (packed 0 0) x y
     go (clash k n) x y = same (packed 0 k) x y
+    go (searched k n g) x y = same (packed 0 k) x y
     go (between v w) x y = same (packed 0 0) x y
     go (listed ls) x y = same (packed 0 (length ls)) x y
 

@@ -8,7 +8,7 @@ use lib.ListN.{length, drop}
 use lib.IntN.{ℤ, pos}
 use lib.Dec.{T, eqb, leb, ltb}
 use Rattle.types.specs.Limits.{base}
-use Rattle.book.specs.Table.{Call, Answer, refused, done, still, clash, between, listed, paper, list-after, mark, number, Outcome, reply}
+use Rattle.book.specs.Table.{Call, Answer, refused, done, still, clash, searched, between, listed, paper, list-after, mark, number, Outcome, reply}
 use Rattle.book.specs.Book.{Counters}
 use Rattle.area.specs.Layout.{rows-of}
 use Rattle.area.specs.Whole.{Whole}
@@ -23,12 +23,13 @@ use Rattle.load.specs.Load.{Loaded}
 abbrev pub packed : ℕ → ℕ → ℕ
 packed code value = value * 256 + code
 
--- the value that goes with code 0: the sentence in conflict, 0 at still; a list's length
+-- the value that goes with code 0: the sentence in conflict, 0 where there is none; a list's length
 abbrev pub value-of : Answer → ℕ
 value-of (refused c n) = n
 value-of done = 0
 value-of (still n) = 0
 value-of (clash k n) = k
+value-of (searched k n g) = k
 value-of (between v w) = 0
 value-of (listed ls) = length ls
 
@@ -38,6 +39,7 @@ told (refused c n) needed room = packed c n
 told done needed room = cond (ltb room needed) (packed 18 needed) (packed 0 (value-of done))
 told (still n) needed room = cond (ltb room needed) (packed 18 needed) (packed 0 (value-of (still n)))
 told (clash k n) needed room = cond (ltb room needed) (packed 18 needed) (packed 0 (value-of (clash k n)))
+told (searched k n g) needed room = cond (ltb room needed) (packed 18 needed) (packed 0 (value-of (searched k n g)))
 told (between v w) needed room = cond (ltb room needed) (packed 18 needed) (packed 0 (value-of (between v w)))
 told (listed ls) needed room = cond (ltb room needed) (packed 18 needed) (packed 0 (value-of (listed ls)))
 
@@ -70,6 +72,10 @@ next-counters o = length (o .rows) ∷ o .level ∷ []
 abbrev pub next-counted : List ℕ → Outcome → List ℕ
 next-counted w o = length (o .rows) ∷ o .level ∷ (length (o .rows) - length (rows-of w)) ∷ []
 
+-- of a search: the counters, the literals derived over all turns, and the literals of the list gone through
+abbrev pub next-searched : Outcome → List ℕ
+next-searched o = length (o .rows) ∷ o .level ∷ paper (o .answer) .value ∷ paper (o .answer) .gone ∷ []
+
 -- ---- reports
 
 -- mark and number of the least, then of the greatest
@@ -78,6 +84,7 @@ bound-words (refused c n) = []
 bound-words done = []
 bound-words (still n) = []
 bound-words (clash k n) = []
+bound-words (searched k n g) = []
 bound-words (between v w) = pos (mark v) ∷ number v ∷ pos (mark w) ∷ number w ∷ []
 bound-words (listed ls) = []
 

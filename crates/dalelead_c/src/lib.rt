@@ -15,12 +15,12 @@ ghost use lib.IntN.{pos};
 ghost use lib.ListN.{length as size-of};
 ghost use Rattle.types.specs.Limits.{base};
 ghost use Rattle.decide.specs.Tells.{Tells};
-ghost use Rattle.book.specs.Table.{give, open-level, take-back, propagate, bounds, explain, explain-conflict, origin, list-trail};
+ghost use Rattle.book.specs.Table.{give, open-level, take-back, propagate, search, bounds, explain, explain-conflict, origin, list-trail};
 ghost use Rattle.area.specs.Whole.{Whole};
 ghost use Rattle.whole.specs.Parts.{counters};
 ghost use Rattle.columns.specs.Columns.{columns};
 ghost use Rattle.columns.specs.Refusals.{load-answer};
-ghost use Rattle.dalelead_c.specs.Interface.{packed, fronted, need-for, load-told, next-counters, next-counted, Changes, ReportsBounds, ReportsList, LoadsFor};
+ghost use Rattle.dalelead_c.specs.Interface.{packed, fronted, need-for, load-told, next-counters, next-counted, next-searched, Changes, ReportsBounds, ReportsList, LoadsFor};
 ghost use Rattle.dalelead_c.specs.Inner.{ToldShort, Finished};
 
 // ---- one number for code and value
@@ -328,6 +328,59 @@ pub extern "C" fn dalelead_propagate(
             return answer(0, sentence.0);
         }
     }
+}
+
+// Search, where the lent words are too few.
+fn search_short(area: &[u64], length: u64, level: u64, literals: &[i64]) -> u64
+    ensures { λ r. ⌜ ToldShort (now (area .entry)) (counters length level) (search (now (literals .entry))) 4 r ⌝ }
+{
+    if !is_whole(area, length, level) {
+        return 9;
+    }
+    let n = area[0] % 65536;
+    if !search::all_known(literals, n) {
+        return 10;
+    }
+    answer(18, 4)
+}
+
+// Four words at the front.
+fn put_four(next: &mut [u64], a: u64, b: u64, c: u64, d: u64)
+    requires { ⌜ 4 ≤ size-of (now next) ⌝ }
+    ensures { λ _. ⌜ now (next .exit) ≡ fronted (a ∷ b ∷ c ∷ d ∷ []) (now (next .entry)) ⌝ }
+{
+    next[0] = a;
+    next[1] = b;
+    next[2] = c;
+    next[3] = d;
+}
+
+// The search loop over a list of literals to try. The value is the sentence in conflict, 0 where there is none.
+#[no_mangle]
+pub extern "C" fn dalelead_search(
+    area: &mut [u64],
+    length: u64,
+    level: u64,
+    literals: &[i64],
+    next: &mut [u64],
+) -> u64
+    ensures { λ r. ⌜ Changes (now (area .entry)) (now (area .exit)) (counters length level) (search (now (literals .entry))) next-searched (now (next .entry)) (now (next .exit)) r ⌝ }
+{
+    if next.len() < 4 {
+        return search_short(area, length, level, literals);
+    }
+    let had = Counters {
+        length,
+        level: Level(level),
+    };
+    let told = dalelead::search(area, had, literals);
+    if told.code != 0 {
+        return told.code;
+    }
+    let after = told.counters;
+    let sentence = told.sentence;
+    put_four(next, after.length, after.level.0, told.count, told.gone);
+    answer(0, sentence.0)
 }
 
 // ---- bounds

@@ -17,7 +17,7 @@ use Rattle.search.specs.declared.Searched.{Searched}
 use Rattle.search.specs.Search.{searched-paper, AllKnown}
 use Rattle.search.specs.Turn.{Ends}
 
-module _ (lim : Limits) (w : List ℕ) (c : Counters) (h : Whole lim w c) (ls : List ℤ) where
+module _ (lim : Limits) (w : List ℕ) (ls : List ℤ) where
   abbrev q : State
   q = area-state lim w
 
@@ -25,16 +25,19 @@ module _ (lim : Limits) (w : List ℕ) (c : Counters) (h : Whole lim w c) (ls : 
   unfolding reply
   reply-by b e = ap {A = Bool} (λ x. cond x (unchanged q (refused 10 0)) (search-ended (searching q ls))) e
 
+  pub reply-known : AllKnown (atoms-of w) ls → reply q (search ls) ≡ search-ended (searching q ls)
+  reply-known k = reply-by false k
+
   strange : (b : Bool) → any (no-atom q) ls ≡ b → ¬ (AllKnown (atoms-of w) ls) → reply q (search ls) .answer ≡ refused 10 0
   strange true e n = ap {A = Outcome} (λ o. o .answer) (reply-by true e)
   strange false e n = absurd (n e)
 
-  pub acts-strange : ¬ (AllKnown (atoms-of w) ls) → Acts lim w w c c (search ls) (paper (refused 10 0))
-  acts-strange n = acts-refused lim w c (search ls) h 10 (strange (any (no-atom q) ls) refl n)
+  pub acts-strange : (c : Counters) → Whole lim w c → ¬ (AllKnown (atoms-of w) ls) → Acts lim w w c c (search ls) (paper (refused 10 0))
+  acts-strange c h n = acts-refused lim w c (search ls) h 10 (strange (any (no-atom q) ls) refl n)
 
-  pub acts-searched : AllKnown (atoms-of w) ls → (w′ : List ℕ) (r : Searched) → Ends lim w w′ ls r → Acts lim w w′ c (counted (r .counters)) (search ls) (searched-paper r)
-  acts-searched k w′ r e =
-      let o = reply-by false k in
+  pub acts-searched : (c : Counters) → Whole lim w c → AllKnown (atoms-of w) ls → (w′ : List ℕ) (r : Searched) → Ends lim w w′ ls r → Acts lim w w′ c (counted (r .counters)) (search ls) (searched-paper r)
+  acts-searched c h k w′ r e =
+      let o = reply-known k in
       acts-moved lim w c (search ls) (searched-paper r) w′ (counted (r .counters)) h
       (subst (λ (x : Outcome). T (not (is-refusal (x .answer) || false))) (sym o) tt)
       (e .answer ∙ ap {A = Outcome} (λ x. paper (x .answer)) (sym o))

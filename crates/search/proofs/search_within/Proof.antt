@@ -34,7 +34,7 @@ returns-2 c = let s = c .before .before .before .before .before .before .before 
     let had = counted (s .args .counters) in
     let ls = s .args .literals .now in
     subst (λ (r : Searched). Acts (s .args .lim) w w had (counted (r .counters)) (table.search ls) (searched-paper r)) (sym (c .refusal2 .ensures))
-    (acts-strange (s .args .lim) w had (whole (c .before .before .before .before)) ls (denied (c .before .before .all-known .ensures) (c .before .if2 .taken)))
+    (acts-strange (s .args .lim) w ls had (whole (c .before .before .before .before)) (denied (c .before .before .all-known .ensures) (c .before .if2 .taken)))
 
 search-whole-requires : tie.Need-search-whole-requires
 search-whole-requires c κs = let s = c .before .before .before .before .before .before .before .before in
@@ -43,7 +43,7 @@ search-whole-requires c κs = let s = c .before .before .before .before .before 
 returns-3 : tie.Need-returns-3
 returns-3 c = let s = c .before .before .before .before .before .before .before .before .before .before .before in
     let e = c .before .before .search-whole in
-    acts-searched (s .args .lim) (s .args .area .now) (counted (s .args .counters)) (whole (c .before .before .before .before .before .before .before)) (s .args .literals .now)
+    acts-searched (s .args .lim) (s .args .area .now) (s .args .literals .now) (counted (s .args .counters)) (whole (c .before .before .before .before .before .before .before))
     (granted (c .before .before .before .before .before .all-known .ensures) (c .before .before .before .before .if2 .left)) (e .last .0) (e .result) (e .ensures)
 
 pub search-within-spec : {M : Type 1} → statement M
