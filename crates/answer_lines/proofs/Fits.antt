@@ -1,4 +1,5 @@
 -- No line is longer than the page that it is put on, whatever the numbers are.
+use mathlib.Core.Path.{_≡_, ap}
 use mathlib.Core.Bool.{Bool, true, false, cond}
 use mathlib.Core.List.{List, [], _∷_, _++_}
 use Prim.Native.Nat.{ℕ, zero, suc, _+_, _*_, _/_, _≤_}
@@ -12,6 +13,8 @@ use Rattle.columns.specs.Indexed.{nth}
 use Rattle.columns.specs.declared.Answer as load
 use Rattle.propagate.specs.declared.Propagated.{Propagated}
 use Rattle.propagate.specs.declared.Propagated.the-variants.{Broken, Still, Conflict}
+use Rattle.pages.specs.Page.{Writes}
+use Rattle.pages.proofs.Laws.{on-page}
 use Rattle.pages.proofs.Lengths.{decimal-short, signed-short}
 use Rattle.answer_lines.specs.Lines.{refused-line, plan-line, done-line, propagated-line, bound, bounds-line, numbers, list-line, row-line, row-lines, trail-lines, line-bytes, list-bytes, trail-bytes}
 
@@ -71,3 +74,12 @@ trail-fits p list =
     either (eqb (p .code) 0) (row-lines list k ++ bytes "trail " ++ decimal (p .value / 3) ++ bytes "\n") (refused-line (p .code) (p .value)) (trail-bytes (length list))
     (simp length-append (omega (arith, rows-fit list k, length-take (p .value) list, decimal-short (p .value / 3))))
     (omega (arith, refused-fits (p .code) (p .value)))
+
+-- ---- so the answer is a place on a page of that size
+
+module _ {old new : List ℕ} {r : ℕ} (p : Paper) (list : List ℤ) (k : ℕ) (l : length list ≡ k) where
+  pub list-on-page : (name : List ℕ) → length name ≤ 49 → length old ≡ list-bytes k → Writes old 0 new r (list-line name p list) → r ≤ length new
+  list-on-page name h e w = on-page w (omega (arith, list-fits name p list h))
+
+  pub trail-on-page : length old ≡ trail-bytes k → Writes old 0 new r (trail-lines p list) → r ≤ length new
+  trail-on-page e w = on-page w (omega (arith, trail-fits p list, ap (λ (n : ℕ). n / 3) l))

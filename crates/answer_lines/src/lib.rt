@@ -114,10 +114,16 @@ fn put_rows(page: &mut [u8], at: usize, list: &[i64], rows: usize) -> usize
     ensures { λ r. ⌜ Writes (now (page .entry)) at (now (page .exit)) r (row-lines (now (list .entry)) rows) ⌝ }
 {
     let mut place = at;
-    let mut i: usize = 0;
-    while i < rows {
-        place = put_row(page, place, list[3 * i], list[3 * i + 1], list[3 * i + 2]);
-        i += 1;
+    let mut row: usize = 0;
+    while row < rows {
+        place = put_row(
+            page,
+            place,
+            list[3 * row],
+            list[3 * row + 1],
+            list[3 * row + 2],
+        );
+        row += 1;
     }
     place
 }

@@ -1,5 +1,7 @@
 // A console for planners: standard input line by line, and for each command one answer line on standard output, written before more is
 // read. What a line means stands in the crate `console_text`; every answer comes from the library.
+use calls::Bounds;
+use calls::Done;
 use calls::Listed;
 use console_text::Bare;
 use console_text::Command;
@@ -117,155 +119,94 @@ fn reading(s: Kept, atoms: u64, expected: u64, rules: u64, entries: u64) -> Kept
     }
 }
 
-// ---- answers
+// ---- answers: each is put on a page that is never too short
 
-fn write_line(out: &[u8], end: usize) {
-    if end <= out.len() {
-        io::write_all(1, &out[0..end]);
-    }
+// What the longest answer line needs that is no list.
+const LINE_PAGE: usize = 9 + 2 * 21;
+
+// No explanation and no origin has more numbers: each atom stands in it at most once.
+const LIST: usize = 1_026;
+
+const LIST_PAGE: usize = 50 + LIST * 22;
+
+// Three numbers for each of 1,024 rows.
+const ROWS: usize = 3_072;
+
+const ROWS_PAGE: usize = 50 + ROWS / 3 * 68;
+
+fn write(page: &[u8], end: usize)
+    requires { ⌜ end ≤ length (now page) ⌝ }
+{
+    io::write_all(1, &page[0..end]);
 }
 
-// A word and a number.
-fn answer_one(name: &[u8], a: u64) {
-    let mut out = [0u8; 64];
-    let word = lines::put_bytes(&mut out, 0, name);
-    let first = lines::put_number(&mut out, word, a);
-    let end = lines::put_bytes(&mut out, first, b"\n");
-    write_line(&out, end);
+fn answer_plan(answer: columns::Answer) {
+    let mut page = [0u8; LINE_PAGE];
+    let end = answer_lines::put_plan(&mut page, 0, answer);
+    write(&page, end);
 }
 
-// A word and two numbers.
-fn answer_two(name: &[u8], a: u64, b: u64) {
-    let mut out = [0u8; 64];
-    let word = lines::put_bytes(&mut out, 0, name);
-    let first = lines::put_number(&mut out, word, a);
-    let gap = lines::put_bytes(&mut out, first, b" ");
-    let second = lines::put_number(&mut out, gap, b);
-    let end = lines::put_bytes(&mut out, second, b"\n");
-    write_line(&out, end);
+fn answer_done(name: &[u8], answer: Done)
+    requires { ⌜ length (now name) ≤ 9 ⌝ }
+{
+    let mut page = [0u8; LINE_PAGE];
+    let end = answer_lines::put_done(&mut page, 0, name, answer);
+    write(&page, end);
+}
+
+fn answer_propagated(answer: Propagated) {
+    let mut page = [0u8; LINE_PAGE];
+    let end = answer_lines::put_propagated(&mut page, 0, answer);
+    write(&page, end);
+}
+
+fn answer_bounds(answer: Bounds) {
+    let mut page = [0u8; LINE_PAGE];
+    let end = answer_lines::put_bounds(&mut page, 0, answer);
+    write(&page, end);
+}
+
+fn answer_list(name: &[u8], answer: Listed, list: &[i64; LIST])
+    requires { ⌜ length (now name) ≤ 49 ⌝ }
+{
+    let mut page = [0u8; LIST_PAGE];
+    let end = answer_lines::put_list(&mut page, 0, name, answer, list);
+    write(&page, end);
+}
+
+fn answer_trail(answer: Listed, list: &[i64; ROWS]) {
+    let mut page = [0u8; ROWS_PAGE];
+    let end = answer_lines::put_trail(&mut page, 0, answer, list);
+    write(&page, end);
 }
 
 // The line is none of the commands: a plan that is being read is dropped.
 fn wrong(s: Kept) -> Kept {
-    answer_one(b"error ", s.lines);
+    let mut page = [0u8; LINE_PAGE];
+    let end = pages::put_line(&mut page, 0, b"error ", s.lines);
+    write(&page, end);
     reading(s, 0, 0, 0, 0)
 }
 
-fn put_bound(out: &mut [u8], at: usize, mark: u64, number: i64) -> usize {
-    if mark == 1 {
-        return lines::put_bytes(out, at, b"-inf");
-    }
-    if mark == 2 {
-        return lines::put_bytes(out, at, b"inf");
-    }
-    lines::put_signed(out, at, number)
-}
-
-fn answer_bounds(b: calls::Bounds) {
-    if b.code != 0 {
-        answer_two(b"refused ", b.code, 0);
-        return;
-    }
-    let mut out = [0u8; 64];
-    let word = lines::put_bytes(&mut out, 0, b"bounds ");
-    let least = put_bound(&mut out, word, b.least_mark, b.least);
-    let gap = lines::put_bytes(&mut out, least, b" ");
-    let greatest = put_bound(&mut out, gap, b.greatest_mark, b.greatest);
-    let end = lines::put_bytes(&mut out, greatest, b"\n");
-    write_line(&out, end);
-}
-
-// A space and a number for each of the list.
-fn put_list(out: &mut [u8], at: usize, list: &[i64]) -> usize {
-    let mut end = at;
-    let mut i: usize = 0;
-    while i < list.len() {
-        let gap = lines::put_bytes(out, end, b" ");
-        end = lines::put_signed(out, gap, list[i]);
-        i += 1;
-    }
-    end
-}
-
-fn answer_list(name: &[u8], listed: Listed, list: &[i64]) {
-    if listed.code != 0 {
-        answer_two(b"refused ", listed.code, listed.value);
-        return;
-    }
-    let n = listed.value as usize;
-    if n <= list.len() {
-        let mut out = [0u8; 32_768];
-        let word = lines::put_bytes(&mut out, 0, name);
-        let numbers = put_list(&mut out, word, &list[0..n]);
-        let end = lines::put_bytes(&mut out, numbers, b"\n");
-        write_line(&out, end);
-    }
-}
-
-// Three numbers of the list to a line.
-fn put_rows(out: &mut [u8], list: &[i64]) -> usize {
-    let mut end: usize = 0;
-    let mut i: usize = 0;
-    while i < list.len() / 3 {
-        let word = lines::put_bytes(out, end, b"t");
-        let row = put_list(out, word, &list[3 * i..3 * i + 3]);
-        end = lines::put_bytes(out, row, b"\n");
-        i += 1;
-    }
-    end
-}
-
-fn answer_rows(listed: Listed, list: &[i64]) {
-    if listed.code != 0 {
-        answer_two(b"refused ", listed.code, listed.value);
-        return;
-    }
-    let n = listed.value as usize;
-    if n <= list.len() {
-        let mut out = [0u8; 65_536];
-        let rows = put_rows(&mut out, &list[0..n]);
-        let word = lines::put_bytes(&mut out, rows, b"trail ");
-        let count = lines::put_number(&mut out, word, listed.value / 3);
-        let end = lines::put_bytes(&mut out, count, b"\n");
-        write_line(&out, end);
-    }
-}
-
 // ---- commands
-
-fn answer_propagate(answer: Propagated) -> Counters {
-    match answer {
-        Propagated::Broken(after) => {
-            answer_two(b"refused ", 9, 0);
-            return after;
-        }
-        Propagated::Still(count, after) => {
-            answer_one(b"still ", count);
-            return after;
-        }
-        Propagated::Conflict(sentence, count, after) => {
-            answer_two(b"conflict ", count, sentence.0);
-            return after;
-        }
-    }
-}
 
 fn bare(area: &mut [u64], s: Kept, command: Bare) -> Kept {
     let counters = s.counters;
     match command {
         Bare::Open => {
             let r = dalelead::open_level(area, counters);
-            answer_two(b"open ", r.code, 0);
+            answer_done(b"open ", r);
             return counted(s, r.counters);
         }
         Bare::Propagate => {
-            let after = answer_propagate(dalelead::propagate(area, counters));
-            return counted(s, after);
+            let answer = dalelead::propagate(area, counters);
+            answer_propagated(answer);
+            return counted(s, propagate::counters_of(answer));
         }
         Bare::Trail => {
-            let mut list = [0i64; 3072];
+            let mut list = [0i64; ROWS];
             let listed = dalelead::list_trail(area, counters, &mut list);
-            answer_rows(listed, &list);
+            answer_trail(listed, &list);
             return s;
         }
     }
@@ -273,11 +214,11 @@ fn bare(area: &mut [u64], s: Kept, command: Bare) -> Kept {
 
 fn of_literal(area: &mut [u64], s: Kept, command: OfLiteral, literal: i64) -> Kept {
     let counters = s.counters;
-    let mut list = [0i64; 4096];
+    let mut list = [0i64; LIST];
     match command {
         OfLiteral::Give => {
             let r = dalelead::give(area, counters, literal);
-            answer_two(b"give ", r.code, 0);
+            answer_done(b"give ", r);
             return counted(s, r.counters);
         }
         OfLiteral::Why => {
@@ -298,7 +239,7 @@ fn of_number(area: &mut [u64], s: Kept, command: OfNumber, number: u64) -> Kept 
     match command {
         OfNumber::Back => {
             let r = dalelead::take_back(area, counters, Level(number));
-            answer_two(b"back ", r.code, 0);
+            answer_done(b"back ", r);
             return counted(s, r.counters);
         }
         OfNumber::Bounds => {
@@ -306,7 +247,7 @@ fn of_number(area: &mut [u64], s: Kept, command: OfNumber, number: u64) -> Kept 
             return s;
         }
         OfNumber::Conflict => {
-            let mut list = [0i64; 4096];
+            let mut list = [0i64; LIST];
             let listed = dalelead::explain_conflict(area, counters, Sentence(number), &mut list);
             answer_list(b"conflict-why", listed, &list);
             return s;
@@ -348,8 +289,7 @@ fn load_plan(
         &all_weights[0..entries],
         &all_literals[0..entries],
     );
-    let sentence = answer.sentence;
-    answer_two(b"plan ", answer.code, sentence.0);
+    answer_plan(answer);
     let next = reading(s, 0, 0, 0, 0);
     if answer.code == 0 {
         return counted(next, zero());
@@ -412,19 +352,27 @@ fn add_rule(
     )
 }
 
+// Load's refusal of a plan that is outside the limits.
+fn answer_outside() {
+    answer_plan(columns::Answer {
+        code: 1,
+        sentence: Sentence(0),
+    });
+}
+
 // A plan is begun. One without rules is loaded at once; one outside the limits gets load's refusal, and no rule is expected.
 fn begin_plan(area: &mut [u64], s: Kept, atoms: u64, sentences: u64) -> Kept {
     let limits = Limits::base();
     if atoms == 0 {
-        answer_two(b"plan ", 1, 0);
+        answer_outside();
         return s;
     }
     if atoms > limits.atoms {
-        answer_two(b"plan ", 1, 0);
+        answer_outside();
         return s;
     }
     if sentences > limits.sentences {
-        answer_two(b"plan ", 1, 0);
+        answer_outside();
         return s;
     }
     if sentences > 0 {

@@ -38,6 +38,7 @@ use Rattle.kinds.specs.Kinds as kind
 use Rattle.opb_text.proofs.Limits.{limits}
 use Rattle.opb_text.proofs.Columns.{same-rows}
 use Rattle.listing.specs.Output.{row-line, bound-line, row-lines, bound-lines, state-lines, listing, area-words, loaded, heads-given, answered, printed, output, page-bytes}
+use Rattle.pages.proofs.Laws.{held-whole}
 use Rattle.answer_lines.specs.Lines.{stop-line}
 use Rattle.listing.specs.Steps.{Prints}
 use Rattle.listing.proofs.Lengths.{refused-length, still-length, conflict-length, row-length, bound-length}
@@ -262,11 +263,8 @@ output-fits input = by (reading input) refl
 
 -- so a page of that size is never too short: what it holds in front is the output, and the answer is its length
 pub never-short : {input old new : List ℕ} {r : ℕ} → Prints input old new r → page-bytes ≤ length old → (r ≡ length (output input)) × (take r new ≡ output input)
-never-short {input} {old} {new} {r} p h =
-    let f = output-fits input in
-    let l : r ≡ length (output input) = omega (arith, p .holds .place, p .size) in
-    (l, p .holds .held (omega (arith, p .size)))
+never-short {input} p h = held-whole (p .holds) (omega (arith, output-fits input, p .size))
 
 -- the answer is a place on such a page
 pub on-page : {input old new : List ℕ} {r : ℕ} → Prints input old new r → length old ≡ page-bytes → r ≤ length new
-on-page {input} {old} {new} {r} p e = omega (arith, never-short p (omega arith) .0, output-fits input, p .size)
+on-page {input} p e = omega (arith, never-short p (omega arith) .0, output-fits input, p .size)

@@ -91,3 +91,12 @@ full {text} {old} {at} l h = record {
 -- nothing written
 pub nothing : (p : List ℕ) (a : ℕ) → Writes p a p a []
 nothing p a = record { size = refl; goes = λ t h. subst (Holds p a) (sym (append-nil t)) h }
+
+-- ---- a page that has room for the text: the answer is the text's length, and the page's front is the text
+
+pub held-whole : {page text : List ℕ} {r : ℕ} → Holds page r text → length text ≤ length page → (r ≡ length text) × (take r page ≡ text)
+held-whole h l = (let k = h .place in omega arith, h .held (let k = h .place in omega arith))
+
+-- so the answer is a place on the page
+pub on-page : {old new text : List ℕ} {r : ℕ} → Writes old 0 new r text → length text ≤ length old → r ≤ length new
+on-page {old} {new} {text} w l = let h = w .goes [] (starts old) in let s = w .size in let k = h .place in omega arith

@@ -20,7 +20,7 @@ loop-holds c = let a = (c .before) .args in (omega arith, no-numbers (a .list .n
 
 loop-again : tie.Need-loop-again Inv-loop μ-loop
 loop-again c = let l = c .before .before .before .before .before .before .before .loop in
-      (omega arith, number-more ((c .before .before .before .before .before .before .before .before .before) .args .list .now) (l .i) (c .before .before .before .before .before .before .loop-test .taken) (search needs) (l .inv .1) (c .before .before .put-named .ensures))
+    (omega arith, number-more ((c .before .before .before .before .before .before .before .before .before) .args .list .now) (l .i) (c .before .before .before .before .before .before .loop-test .taken) (search needs) (l .inv .1) (c .before .before .put-named .ensures))
 
 returns : tie.Need-returns Inv-loop μ-loop
 returns c = all-numbers ((c .before .before .before) .args .list .now) (c .loop-test .left) (c .before .loop .inv .1)

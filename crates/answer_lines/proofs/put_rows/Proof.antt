@@ -1,4 +1,4 @@
--- The first i rows are on the page.
+-- The first rows are on the page.
 use native.Mathlib.Omega.{arith}
 use Prim.Native.Nat.{_≤_, _-_}
 use Rattle.pages.specs.Page.{Writes}
@@ -9,17 +9,17 @@ use Rattle.answer_lines.proofs.put_rows.Statement.{statement}
 use Rattle.answer_lines.proofs.put_rows.Tie as tie
 
 abbrev Inv-loop : tie.InvT-loop
-Inv-loop page₀ at list rows place₀ i₀ page place i = (i ≤ rows) × Writes page₀ at page place (row-lines list i)
+Inv-loop page₀ at list rows place₀ row₀ page place row = (row ≤ rows) × Writes page₀ at page place (row-lines list row)
 
 abbrev μ-loop : tie.MeasureT-loop
-μ-loop page₀ at list rows place₀ i₀ page place i = rows - i
+μ-loop page₀ at list rows place₀ row₀ page place row = rows - row
 
 loop-holds : tie.Need-loop-holds Inv-loop μ-loop
 loop-holds c = let a = (c .before) .args in (omega arith, no-rows (a .list .now) (a .page .now) (a .at))
 
 loop-again : tie.Need-loop-again Inv-loop μ-loop
 loop-again c = let l = c .before .before .before .before .before .before .before .before .loop in let a = (c .before .before .before .before .before .before .before .before .before .before) .args in
-      (omega arith, row-more (a .list .now) (l .i) (search needs) (search needs) (search needs) (l .inv .1) (c .before .before .put-row .ensures))
+    (omega arith, row-more (a .list .now) (l .row) (search needs) (search needs) (search needs) (l .inv .1) (c .before .before .put-row .ensures))
 
 returns : tie.Need-returns Inv-loop μ-loop
 returns c = let i = c .before .loop .inv in all-rows ((c .before .before .before) .args .list .now) (omega (arith, i .0)) (i .1)

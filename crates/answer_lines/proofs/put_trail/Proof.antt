@@ -15,8 +15,8 @@ returns c = rw (ne-eqb ((c .before .before .before .before .before .before .befo
 
 returns-2 : tie.Need-returns-2
 returns-2 c = let a = (c .before .before .before .before .before .before .before .before .before .before .before .before .before .before) .args in
-      let rows = all-rows (a .list .now) (ap (λ (n : ℕ). n / 3) (c .before .before .before .before .before .before .before .before .before .before .listed-of .ensures .1)) (c .before .before .before .before .before .before .before .before .put-rows .ensures) in
-      rw (eq-eqb (a .answer .code) 0 (c .before .before .before .before .before .before .before .before .before .before .before .if1 .left)) (then-line (bytes "trail ") _ rows (c .before .before .put-line .ensures))
+    let rows = all-rows (a .list .now) (ap (λ (n : ℕ). n / 3) (c .before .before .before .before .before .before .before .before .before .before .listed-of .ensures .1)) (c .before .before .before .before .before .before .before .before .put-rows .ensures) in
+    rw (eq-eqb (a .answer .code) 0 (c .before .before .before .before .before .before .before .before .before .before .before .if1 .left)) (then-line (bytes "trail ") _ rows (c .before .before .put-line .ensures))
 
 pub put-trail-spec : {M : Type 1} → statement M
 put-trail-spec =
