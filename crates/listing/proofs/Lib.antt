@@ -5,5 +5,8 @@ pub mod Reading
 pub mod Loading
 pub mod Lengths
 pub mod Sums
+pub mod Texts
+pub mod States
 pub mod Fits
+pub mod Judging
 pub mod Checks

@@ -20,13 +20,13 @@ use Rattle.columns.specs.declared.Answer.{Answer}
 use Rattle.load.specs.Load.{Loaded, Loads}
 use Rattle.pages.specs.Page.{Writes}
 use Rattle.answer_lines.specs.Lines.{refused-line}
-use Rattle.listing.specs.Output.{listing, area-words, loaded, heads-given, answered}
+use Rattle.listing.specs.Output.{listing, area-words, loaded, judged-sentences, heads-given, answered}
 use Rattle.listing.specs.Steps.{HeadsAsked, HeadsGiven, Answers}
 
 abbrev state : ℕ → List Rule → ℕ → List Row → State
 state n rs v rows = record { broken = false; atoms = n; levels = base .levels; sentences = judged-all rs; level = v; rows = rows }
 
-loaded-state : {w w′ : List ℕ} {n : ℕ} {xs : Columns} → Loaded base w w′ n xs → area-state base w′ ≡ loaded n (all-written xs)
+loaded-state : {w w′ : List ℕ} {n : ℕ} {xs : Columns} → Loaded base w w′ n xs → area-state base w′ ≡ loaded n (judged-sentences (all-written xs))
 loaded-state {w} {w′} {n} {xs} l =
     ap {A = ℕ} (λ m. state m (theory-of w′) (level-of w′) (rows-of w′)) (l .atoms)
     ∙ ap {A = List Rule} (λ t. state n t (level-of w′) (rows-of w′)) (l .theory)
@@ -39,7 +39,7 @@ module _ {w w′ : List ℕ} (v c : ℕ) {xs : Columns} {a : Answer} (size : len
 
   pub refusal-answered : {old new : List ℕ} {r : ℕ} → (¬ (a .code ≡ 0)) → Writes old 0 new r (refused-line (a .code) (a .sentence .0)) → Answers old new r v c xs
   refusal-answered {old} {new} {r} d p =
-      subst (λ (x : Answer). Writes old 0 new r (answered v c (all-written xs) x)) answer-is (rw (ne-eqb (a .code) 0 d) p)
+      subst (λ (x : Answer). Writes old 0 new r (answered v c (judged-sentences (all-written xs)) x)) answer-is (rw (ne-eqb (a .code) 0 d) p)
 
   pub heads-asked : a .code ≡ 0 → v + c ≤ 1024 → HeadsAsked w′ v c
   heads-asked z f = record { whole = h .accepted z .whole; few = omega arith }
@@ -47,6 +47,6 @@ module _ {w w′ : List ℕ} (v c : ℕ) {xs : Columns} {a : Answer} (size : len
   pub listing-answered :
       {w″ old new : List ℕ} {d : t.Counters} {r : ℕ} → a .code ≡ 0 → HeadsGiven w′ w″ v c d → Writes old 0 new r (listing (area-state base w″)) → Answers old new r v c xs
   listing-answered {w″} {old} {new} {d} {r} z g p =
-      subst (λ (x : Answer). Writes old 0 new r (answered v c (all-written xs) x)) answer-is
+      subst (λ (x : Answer). Writes old 0 new r (answered v c (judged-sentences (all-written xs)) x)) answer-is
       (rw (eq-eqb (a .code) 0 z)
       (subst (λ (q : State). Writes old 0 new r (listing q)) (g .stands .state ∙ ap (λ (q : State). heads-given q v c) (loaded-state (h .accepted z))) p))

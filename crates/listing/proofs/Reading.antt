@@ -19,7 +19,7 @@ use Rattle.pages.specs.Page.{Holds, Writes}
 use Rattle.pages.proofs.Laws.{starts}
 use Rattle.listing.specs.Steps.{Prints}
 use Rattle.answer_lines.specs.Lines.{refused-line}
-use Rattle.listing.specs.Output.{area-words, answered, printed, output}
+use Rattle.listing.specs.Output.{area-words, judged-sentences, answered, printed, output}
 
 abbrev pub fronts : ℕ → ℕ → Columns → Columns
 fronts n e c =
@@ -68,13 +68,13 @@ module _ {text : List ℕ} {old new : Columns} {r : Read} (h : Reads text old ne
 
   pub answered-printed :
       r .code ≡ 0 →
-      answered (r .variables) (r .constraints) (all-written (fronts (r .sentences) (r .entries) new)) (load-answer base area-words (r .variables + r .constraints) (fronts (r .sentences) (r .entries) new))
+      answered (r .variables) (r .constraints) (judged-sentences (all-written (fronts (r .sentences) (r .entries) new))) (load-answer base area-words (r .variables + r .constraints) (fronts (r .sentences) (r .entries) new))
       ≡ output text
   unfolding output
   answered-printed z = by (reading text) refl
     where
       there : ℕ → ℕ → Columns → List ℕ
-      there v c x = answered v c (all-written x) (load-answer base area-words (v + c) x)
+      there v c x = answered v c (judged-sentences (all-written x)) (load-answer base area-words (v + c) x)
 
       by : (x : Reading) → reading text ≡ x → there (r .variables) (r .constraints) (fronts (r .sentences) (r .entries) new) ≡ printed (reading text)
       by (refused c k) e = absurd (numbered text c k e (sym (ap (λ (x : Read). x .code) (answer-is ∙ ap (read-of 256 4096) e)) ∙ z))
@@ -84,7 +84,7 @@ module _ {text : List ℕ} {old new : Columns} {r : Read} (h : Reads text old ne
           let n : new ≡ over-all (columns-of xs) old = h .filled z ∙ ap (λ (x : Reading). result-of x old) e in
           ap₂ (λ (x : Read) (c : Columns). there (x .variables) (x .constraints) (fronts (x .sentences) (x .entries) c)) a n
           ∙ ap (there v (length cs)) (fronts-are xs old)
-          ∙ ap (λ (ys : List Written). answered v (length cs) ys (load-answer base area-words (v + length cs) (columns-of xs))) (same-rows xs)
+          ∙ ap (λ (ys : List Written). answered v (length cs) (judged-sentences ys) (load-answer base area-words (v + length cs) (columns-of xs))) (same-rows xs)
           ∙ ap printed (sym e)
 
 -- from the start of the page

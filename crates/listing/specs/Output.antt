@@ -9,7 +9,7 @@ use lib.Dec.{eqb}
 use Rattle.types.specs.Limits.{base}
 use Rattle.numbers.specs.Text.{bytes, decimal, signed-decimal}
 use Rattle.book.specs.Rows.{Row}
-use Rattle.book.specs.Table.{give, propagate, bounds, Paper, paper, State, reply, called}
+use Rattle.book.specs.Table.{give, propagate, bounds, Judged, Paper, paper, State, reply, called}
 use Rattle.book.specs.Book.{judged-all, rules-of}
 use Rattle.columns.specs.Columns.{Written, sentences-in}
 use Rattle.columns.specs.declared.Answer as load
@@ -55,10 +55,13 @@ listing q = stop-line (paper (reply q propagate .answer)) ++ state-lines (called
 abbrev pub area-words : ℕ
 area-words = 4 * base .atoms + 8 * base .sentences + 2 * base .entries
 
+-- the sentences, judged by the computed tests; any judgement by full assignments gives the same bytes (`proofs/Judging: output-judged`)
+abbrev pub judged-sentences : List Written → List Judged
+judged-sentences xs = judged-all (rules-of (sentences-in xs))
+
 -- 'Load leaves an empty trail at level 0 and derives nothing.'
-abbrev pub loaded : ℕ → List Written → State
-loaded n xs =
-    record { broken = false; atoms = n; levels = base .levels; sentences = judged-all (rules-of (sentences-in xs)); level = 0; rows = [] }
+abbrev pub loaded : ℕ → List Judged → State
+loaded n js = record { broken = false; atoms = n; levels = base .levels; sentences = js; level = 0; rows = [] }
 
 -- 'Constraint j has head V + j, given at level 0 in order': the first k of them
 unfoldable pub heads-given : State → ℕ → ℕ → State
@@ -66,13 +69,13 @@ heads-given q v zero = q
 heads-given q v (suc k) = called (heads-given q v k) (give (pos (v + suc k)))
 
 -- V variables, C constraints, their sentences, and load's answer
-abbrev pub answered : ℕ → ℕ → List Written → load.Answer → List ℕ
-answered v c xs a = cond (eqb (a .code) 0) (listing (heads-given (loaded (v + c) xs) v c)) (refused-line (a .code) (a .sentence .0))
+abbrev pub answered : ℕ → ℕ → List Judged → load.Answer → List ℕ
+answered v c js a = cond (eqb (a .code) 0) (listing (heads-given (loaded (v + c) js) v c)) (refused-line (a .code) (a .sentence .0))
 
 abbrev pub printed : Reading → List ℕ
 printed (text.refused code k) = refused-line code k
 printed (text.taken v cs) =
-    answered v (length cs) (rows-from (suc v) cs) (load-answer base area-words (v + length cs) (columns-of (rows-from (suc v) cs)))
+    let xs = rows-from (suc v) cs in answered v (length cs) (judged-sentences xs) (load-answer base area-words (v + length cs) (columns-of xs))
 
 unfoldable pub output : List ℕ → List ℕ
 output input = printed (reading input)

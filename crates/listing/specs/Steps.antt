@@ -11,7 +11,7 @@ use Rattle.calls.specs.Calls.{area-state, counted}
 use Rattle.columns.specs.Columns.{Columns, all-written}
 use Rattle.columns.specs.Refusals.{load-answer}
 use Rattle.pages.specs.Page.{Holds, Writes}
-use Rattle.listing.specs.Output.{heads-given, area-words, answered, output}
+use Rattle.listing.specs.Output.{heads-given, area-words, judged-sentences, answered, output}
 
 abbrev pub WholeArea : List ℕ → Counters → Type 0
 WholeArea w c = Whole base w (counted c)
@@ -33,9 +33,9 @@ pub record HeadsGiven (w w′ : List ℕ) (v c : ℕ) (r : Counters) : Type 0 wh
   pub stands : Stands w′ r (heads-given (area-state base w) v c)
   pub size : length w′ ≡ length w
 
--- the columns' sentences loaded and answered, on a page from its start
+-- what is printed for the columns' sentences, on a page from its start
 abbrev pub Answers : List ℕ → List ℕ → ℕ → ℕ → ℕ → Columns → Type 0
-Answers old new r v c xs = Writes old 0 new r (answered v c (all-written xs) (load-answer base area-words (v + c) xs))
+Answers old new r v c xs = Writes old 0 new r (answered v c (judged-sentences (all-written xs)) (load-answer base area-words (v + c) xs))
 
 -- the promise of the program: the page holds the output, or is too short
 pub record Prints (input old new : List ℕ) (r : ℕ) : Type 0 where

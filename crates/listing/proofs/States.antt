@@ -1,0 +1,62 @@
+-- The states that the program goes through, for any judgement by full assignments: at level 0, with sound rows.
+use mathlib.Core.Path.{_≡_, refl, sym, ap, ap₂, subst}
+use mathlib.Core.Bool.{Bool, true, false, not, _&&_}
+use mathlib.Core.List.{List}
+use Prim.Native.Nat.{ℕ, zero, suc, _+_}
+use native.Mathlib.Omega.{arith}
+use lib.ListN.{length}
+use lib.IntN.{pos}
+use borrow.Author.Tests.{eq-eqb, le-leb}
+use Rattle.types.specs.Limits.{base}
+use Rattle.meaning.specs.Meaning.{Sentence, Each}
+use Rattle.book.specs.Rows.{Row}
+use Rattle.book.specs.Table.{Judged, Call, give, State, Outcome, effect, reply, called}
+use Rattle.book.specs.Book.{JudgesAll, Book, Asked, need, book-state}
+use Rattle.book.proofs.Sound.{Scoped, Sound}
+use Rattle.book.proofs.Keeps.{turn-sound}
+use Rattle.book.proofs.Tests.{reply-is}
+use Rattle.listing.specs.Output.{heads-given}
+
+abbrev pub standing : ℕ → List Judged → List Row → State
+standing n js rs = record { broken = false; atoms = n; levels = base .levels; sentences = js; level = 0; rows = rs }
+
+pub record Standing (n : ℕ) (ss : List Sentence) (js : List Judged) (q : State) : Type 0 where
+  pub rows : List Row
+  pub state : q ≡ standing n js rows
+  pub sound : Sound n ss 0 rows
+
+-- calls that leave the level as it is
+abbrev pub Levelled : Call → Type 0
+Levelled x = (q : State) → effect q x .level ≡ q .level
+
+abbrev pub book : ℕ → List Sentence → List Row → Book
+book n ss rs = record { atoms = n; sentences = ss; level = 0; rows = rs }
+
+abbrev pub asked : ℕ → List Sentence → Call → List Row → Asked
+asked n ss x rs = record { call = x; size = need n ss; counters = record { length-is = length rs; level-is = 0 } }
+
+module _ (n : ℕ) (ss : List Sentence) (js : List Judged) where
+  pub fitting : (rs : List Row) → book-state base js (book n ss rs) (need n ss) (record { length-is = length rs; level-is = 0 }) ≡ standing n js rs
+  fitting rs =
+      ap₂ (λ (a b : Bool). record { broken = not ((a && true) && b); atoms = n; levels = base .levels; sentences = js; level = 0; rows = rs })
+      (eq-eqb (length rs) (length rs) refl) (le-leb (need n ss) (need n ss) (omega arith))
+
+module _ (n : ℕ) (ss : List Sentence) (js : List Judged) (w : Each (Scoped n) ss) (m : JudgesAll ss js) where
+  after : (x : Call) → Levelled x → (rs : List Row) → Sound n ss 0 rs → Standing n ss js (called (standing n js rs) x)
+  after x l rs h =
+      let q = standing n js rs in
+      let e : reply q x .level ≡ 0 = reply-is (λ (o : Outcome). o .level ≡ 0) q x (λ c v. refl) (λ p. l q) in
+      record {
+        rows = reply q x .rows;
+        state = ap (λ (v : ℕ). record { broken = false; atoms = n; levels = base .levels; sentences = js; level = v; rows = reply q x .rows }) e;
+        sound = subst (λ (v : ℕ). Sound n ss v (reply q x .rows)) e
+            (subst (λ (s : State). Sound n ss (reply s x .level) (reply s x .rows)) (fitting n ss js rs) (turn-sound base js (book n ss rs) w m h (asked n ss x rs)));
+      }
+
+  pub step : (x : Call) → Levelled x → {q : State} → Standing n ss js q → Standing n ss js (called q x)
+  step x l s = subst (λ (q : State). Standing n ss js (called q x)) (sym (s .state)) (after x l (s .rows) (s .sound))
+
+  pub heads-stand : (q : State) (v k : ℕ) → Standing n ss js q → Standing n ss js (heads-given q v k)
+  unfolding heads-given
+  heads-stand q v zero s = s
+  heads-stand q v (suc k) s = step (give (pos (v + suc k))) (λ p. refl) (heads-stand q v k s)
