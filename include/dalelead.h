@@ -70,14 +70,13 @@ uint64_t dalelead_take_back(uint64_t *area, size_t area_len, uint64_t length, ui
  * Refuses: 9; 18 (3). */
 uint64_t dalelead_propagate(uint64_t *area, size_t area_len, uint64_t length, uint64_t level, uint64_t *next, size_t next_len);
 
-/* Search: propagate; from still, the level rises by one, the next literal of the list whose atom is not on the trail goes on, propagate,
- * and so on, until the list is done or a sentence is in conflict. Literals whose atom is on the trail, either sign, are passed over. At
- * level 1,024 the search ends at the first literal that is not. next[0], next[1]: the counters; next[2]: the number of literals that all
- * propagates put on; next[3]: the number of literals of the list gone through, those tried, the one that led to a conflict included,
- * and those passed over. Value 0, or the sentence in conflict.
+/* Search: propagate; then literal by literal of the list: one whose atom is on the trail is passed over; for an open one a level is opened,
+ * the literal is given and propagate follows. It ends at a conflict, at the list's end, or before an open literal at level 1,024; what was
+ * put on stays. next[0], next[1]: the counters; next[2]: the number of literals derived; next[3]: the literals of the list gone through
+ * (tried, or passed over; the one that led to a conflict counts). Value 0, or the sentence in conflict.
  * Refuses: 9; 10 (0) any literal of the list 0 or of no atom; 18 (4). */
-uint64_t dalelead_search(uint64_t *area, size_t area_len, uint64_t length, uint64_t level,
-                         const int64_t *literals, size_t literals_len, uint64_t *next, size_t next_len);
+uint64_t dalelead_search(uint64_t *area, size_t area_len, uint64_t length, uint64_t level, const int64_t *literals, size_t literals_len,
+                         uint64_t *next, size_t next_len);
 
 /* Bounds of a sentence: the least and the greatest value of its set over the full assignments that agree with the trail.
  * out[0], out[1]: mark and number of the least; out[2], out[3]: of the greatest. Mark 0 a number, 1 below every number, 2 above every

@@ -1,5 +1,6 @@
 // Document 01's examples, run: for each a line with its name, one for load, one for each literal given, the bounds of sentence 1, what
-// propagate answers, the trail's rows, and the bounds again. Then levels up to the limit, and a ring of 256 sentences, searched.
+// propagate answers, the trail's rows, and the bounds again. Then searches: on a ring of two with a list that is refused, at the highest level,
+// and on a ring of 256 sentences.
 use propagate::Propagated;
 use types::Atom;
 use types::Counters;
@@ -235,16 +236,14 @@ fn again() {
     show_trail(&area, after);
 }
 
-// M12: two sentences that refer to each other.
-fn ring_of_two() {
-    let mut area = [0u64; 28];
+fn load_two(area: &mut [u64]) {
     let heads = [1u64, 2];
     let zeros = [0u64; 2];
     let ones = [1i64; 2];
     let counts = [1u64; 2];
     let literals = [2i64, 1];
     dalelead::load(
-        &mut area,
+        area,
         Atom(2),
         &heads,
         &zeros,
@@ -254,13 +253,53 @@ fn ring_of_two() {
         &ones,
         &literals,
     );
+}
+
+// M12: two sentences that refer to each other.
+fn ring_of_two() {
+    let mut area = [0u64; 28];
+    load_two(&mut area);
     let given = give_all(&mut area, &[1i64]);
     let after = show_propagate(&mut area, given);
     show_trail(&area, after);
 }
 
+// Whether two lists of words are the same.
+fn same(a: &[u64], b: &[u64]) -> bool {
+    if a.len() != b.len() {
+        return false;
+    }
+    let mut i = 0;
+    while i < a.len() {
+        if a[i] != b[i] {
+            return false;
+        }
+        i += 1;
+    }
+    true
+}
+
+fn show_same(a: &[u64], b: &[u64]) {
+    if same(a, b) {
+        io::write_all(1, b"words kept\n");
+    } else {
+        io::write_all(1, b"words changed\n");
+    }
+}
+
+// On a ring of two: 10 for the list's last literal changes no word; without it the search goes through the list, the second literal passed over.
+fn refused_list() {
+    let mut area = [0u64; 28];
+    load_two(&mut area);
+    let before = area;
+    show_search(dalelead::search(&mut area, start(), &[1i64, -2, 3]));
+    show_same(&area, &before);
+    show_search(dalelead::search(&mut area, start(), &[1i64, -2, 2]));
+    show_same(&area, &before);
+}
+
 // Open 1,025 times: the number of levels opened, and the last answer.
-fn open_all(area: &mut [u64]) {
+fn open_all(area: &mut [u64]) -> Counters {
     let mut now = start();
     let mut opened: u64 = 0;
     let mut code: u64 = 0;
@@ -280,8 +319,10 @@ fn open_all(area: &mut [u64]) {
     space();
     io::print_decimal(1, code);
     line();
+    now
 }
 
+// At the highest level an open literal ends the search, with no refusal, and one that is on the trail is passed over.
 fn levels() {
     let mut area = [0u64; 4];
     let none = [0u64; 0];
@@ -297,7 +338,10 @@ fn levels() {
         &nothing,
         &nothing,
     );
-    open_all(&mut area);
+    let top = open_all(&mut area);
+    show_search(dalelead::search(&mut area, top, &[1i64]));
+    let given = give_one(&mut area, top, 1);
+    show_search(dalelead::search(&mut area, given, &[-1i64, 1]));
 }
 
 // Sentence i has head i, and the next head in its set; the last has the first.
@@ -852,6 +896,8 @@ fn show_search(r: search::Searched) {
     space();
     io::print_decimal(1, r.count);
     space();
+    io::print_decimal(1, r.gone);
+    space();
     io::print_decimal(1, counters.length);
     space();
     io::print_decimal(1, level.0);
@@ -867,7 +913,7 @@ fn ring() {
     load_ring(&mut area);
     show_search(dalelead::search(&mut area, start(), &[7i64, 7, 8]));
     load_ring(&mut area);
-    show_search(dalelead::search(&mut area, start(), &[0i64]));
+    show_search(dalelead::search(&mut area, start(), &[7i64, 0]));
     load_ring(&mut area);
     let both = give_all(&mut area, &[1i64, -5]);
     show_search(dalelead::search(&mut area, both, &[7i64]));
@@ -881,6 +927,7 @@ fn main() {
     again();
     io::write_all(1, b"M12\n");
     ring_of_two();
+    refused_list();
     levels();
     ring();
 }

@@ -9,7 +9,7 @@ use lib.ListN.{length}
 use lib.Dec.{T, T-not, eqb→eq}
 use Rattle.meaning.specs.Meaning.{Each}
 use Rattle.book.specs.Rows.{Row, up-to}
-use Rattle.book.specs.Table.{Call, give, open-level, take-back, propagate, bounds, explain, explain-conflict, origin, list-trail, refused, done, paper, list-after, State, propagated, Refusal, refusal, refusals, Outcome, unchanged, ended, effect, decided, reply}
+use Rattle.book.specs.Table.{Call, give, open-level, take-back, propagate, search, bounds, explain, explain-conflict, origin, list-trail, refused, done, paper, list-after, State, propagated, Refusal, refusal, refusals, Outcome, unchanged, ended, effect, decided, reply}
 use Rattle.book.proofs.Tests.{reply-is}
 use Rattle.calls.specs.Calls.{is-refusal, idle, keeps}
 use Rattle.propagate.proofs.Ending.{not-refused}
@@ -45,6 +45,7 @@ module _ (q : State) where
   coded open-level = ((λ e. omega arith), tt)
   coded (take-back k) = ((λ e. omega arith), tt)
   coded propagate = tt
+  coded (search ls) = ((λ e. omega arith), tt)
   coded (bounds k) = ((λ e. omega arith), tt)
   coded (explain l room) = ((λ e. omega arith), ((λ e. omega arith), ((λ e. omega arith), ((λ e. omega arith), tt))))
   coded (explain-conflict k room) = ((λ e. omega arith), ((λ e. omega arith), ((λ e. omega arith), tt)))
@@ -79,6 +80,7 @@ module _ (q : State) where
         let s = propagated q .sentence in
         let k = length (propagated q .rows) - length (q .rows) in
         absurd (T-not (is-refusal (ended s k) || false) (not-refused s k) t)
+    effect-kept (search ls) t = absurd t
     effect-kept (bounds k) t = refl
     effect-kept (explain l room) t = refl
     effect-kept (explain-conflict k room) t = refl

@@ -10,14 +10,15 @@ use lib.Dec.{T, eqb}
 use Rattle.types.specs.Limits.{base}
 use Rattle.types.specs.declared.Counters as t
 use Rattle.book.specs.Rows.{up-to}
-use Rattle.book.specs.Table.{Call, give, open-level, take-back, propagate, bounds, explain, explain-conflict, origin, list-trail, Answer, refused, done, still, clash, between, listed, Paper, paper, list-after, State, reply}
+use Rattle.book.specs.Table.{Call, give, open-level, take-back, propagate, search, bounds, explain, explain-conflict, origin, list-trail, Answer, refused, done, still, clash, searched, between, listed, Paper, paper, list-after, State, reply}
 use Rattle.book.specs.Book.{Counters}
 use Rattle.area.specs.Layout.{level-of, rows-of}
 use Rattle.area.specs.Whole.{Whole}
 use Rattle.calls.specs.Calls.{counted, done-paper, bounds-paper, listed-paper, area-state, is-refusal, idle, keeps, Answered, Moved, Acts, Lists}
 use Rattle.propagate.specs.Propagate.{propagated-paper, counters-of}
+use Rattle.search.specs.Search.{searched-paper}
 use Rattle.search.proofs.Moves.{stays}
-use Rattle.history.specs.History.{Event, event, held, Step, gives, opens, takes-back, propagates, reads-bounds, lists-explanation, lists-conflict, lists-origin, lists-trail}
+use Rattle.history.specs.History.{Event, event, held, Step, gives, opens, takes-back, propagates, searches, reads-bounds, lists-explanation, lists-conflict, lists-origin, lists-trail}
 use Rattle.history.proofs.Replies.{ListsNothing, propagate-lists-nothing, no-list, reply-kept}
 
 -- a call that lends no list, with the counters that it hands back; or a report, which hands back none
@@ -36,6 +37,7 @@ way (gives l r a) = acts (give l) (done-paper r) (r .counters) (λ q. refl) a
 way (opens r a) = acts open-level (done-paper r) (r .counters) (λ q. refl) a
 way (takes-back k r a) = acts (take-back k) (done-paper r) (r .counters) (λ q. refl) a
 way (propagates r a) = acts propagate (propagated-paper r) (counters-of r) propagate-lists-nothing (a .0)
+way (searches ls r a) = acts (search ls) (searched-paper r) (r .counters) (λ q. refl) a
 way {w} {d = d} (reads-bounds k r a) =
     reports (bounds k) (bounds-paper r) [] [] (λ q. tt) (lists-none w (counted d) (bounds k) (bounds-paper r) (λ q. refl) a)
 way (lists-explanation l old new r a) = reports (explain l (length old)) (listed-paper r) old new (λ q. tt) a
@@ -60,6 +62,7 @@ module _ (c c′ : t.Counters) where
   held-moved done b t = refl
   held-moved (still n) b t = refl
   held-moved (clash k n) b t = refl
+  held-moved (searched k n g) b t = refl
   held-moved (between v w) b t = refl
   held-moved (listed ls) b t = refl
 

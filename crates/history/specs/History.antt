@@ -11,7 +11,7 @@ use Rattle.types.specs.declared.Counters as t
 use Rattle.numbers.specs.Words.{unword}
 use Rattle.meaning.specs.Meaning.{Sentence}
 use Rattle.book.specs.Rows.{trail}
-use Rattle.book.specs.Table.{Call, give, open-level, take-back, propagate, bounds, explain, explain-conflict, origin, list-trail, Answer, Paper, paper, list-after, Judged}
+use Rattle.book.specs.Table.{Call, give, open-level, take-back, propagate, search, bounds, explain, explain-conflict, origin, list-trail, Answer, Paper, paper, list-after, Judged}
 use Rattle.book.specs.Book.{Counters, JudgesAll, judged-all, rules-of, fresh, need, Asked, answers, played}
 use Rattle.book.specs.Means.{Bounded, Explains, ExplainsConflict, OriginList}
 use Rattle.area.specs.Layout.{atoms-of, level-of, rows-of, theory-of, record-at, least-at, greatest-at}
@@ -22,10 +22,12 @@ use Rattle.calls.specs.declared.Listed.{Listed}
 use Rattle.calls.specs.Calls.{counted, done-paper, bounds-paper, listed-paper}
 use Rattle.propagate.specs.declared.Propagated.{Propagated}
 use Rattle.propagate.specs.Propagate.{propagated-paper, counters-of}
+use Rattle.search.specs.declared.Searched.{Searched}
+use Rattle.search.specs.Search.{searched-paper}
 use Rattle.columns.specs.Columns.{Columns, all-written, sentences-in}
 use Rattle.columns.specs.declared.Answer as c
 use Rattle.load.specs.Load.{Loads}
-use Rattle.dalelead.specs.Public.{Gives, Opens, TakesBack, Propagates, ReadsBounds, ListsExplanation, ListsConflict, ListsOrigin, ListsTrail}
+use Rattle.dalelead.specs.Public.{Gives, Opens, TakesBack, Propagates, SearchesFor, ReadsBounds, ListsExplanation, ListsConflict, ListsOrigin, ListsTrail}
 
 -- ---- one call
 
@@ -52,6 +54,8 @@ pub data Step (w : List ℕ) (c d : t.Counters) : List ℕ → Event → t.Count
       → Step w c d w′ (event (take-back k) w d (done-paper r) [] []) (held (done-paper r) c (r .counters))
   propagates : {w′ : List ℕ} (r : Propagated) → Propagates w w′ d r
       → Step w c d w′ (event propagate w d (propagated-paper r) [] []) (held (propagated-paper r) c (counters-of r))
+  searches : {w′ : List ℕ} (ls : List ℤ) (r : Searched) → SearchesFor w w′ d ls r
+      → Step w c d w′ (event (search ls) w d (searched-paper r) [] []) (held (searched-paper r) c (r .counters))
   reads-bounds : (k : ℕ) (r : Bounds) → ReadsBounds w d k r → Step w c d w (event (bounds k) w d (bounds-paper r) [] []) c
   lists-explanation : (l : ℤ) (old new : List ℤ) (r : Listed) → ListsExplanation w d l old new r
       → Step w c d w (event (explain l (length old)) w d (listed-paper r) old new) c
