@@ -23,7 +23,7 @@ use Rattle.propagate.specs.Propagate.{plain, propagated-paper, counters-of, Nam
 use Rattle.propagate.proofs.Ending.{run-longer, not-refused}
 use Rattle.search.specs.declared.Searched.{Searched}
 use Rattle.search.specs.Search.{searched-paper}
-use Rattle.search.specs.Turn.{nth, NextIs, Tried, ended-by, Ends}
+use Rattle.search.specs.Turn.{nth, NextIs, Tried, unopposed-with, ended-by, Ends}
 use Rattle.search.proofs.Passing.{turns, try-past, try-highest, try-open}
 use Rattle.search.proofs.Moves.{rows-count, few-rows, stays, state-after, moved-twice, moved-here, moved-with}
 
@@ -46,11 +46,8 @@ ends {lim} {w₀} {w′} {r = r} e s m = record {
 }
 
 -- no conflict, with the words as they are
-abbrev pub done-with : (total gone : ℕ) → t.Counters → Searched
-done-with total gone c = record { code = 0; sentence = record { 0 = 0 }; count = total; gone = gone; counters = c }
-
 ends-here : {lim : Limits} {w₀ w : List ℕ} {c : t.Counters} {ls : List ℤ} {total : ℕ} {left : End} (gone : ℕ) → Reached lim w₀ w (counted c) ls total left
-    → left ≡ end 0 total gone (area-state lim w) → Ends lim w₀ w ls (done-with total gone c)
+    → left ≡ end 0 total gone (area-state lim w) → Ends lim w₀ w ls (unopposed-with 0 total gone c)
 ends-here {total = total} gone g e = ends (g .same ∙ e) refl (moved-here (g .moved) (searched 0 total gone))
 
 -- ---- propagate
@@ -143,11 +140,11 @@ module _ (lim : Limits) (w : List ℕ) where
 
 module _ (lim : Limits) {w₀ w : List ℕ} {c : t.Counters} {ls : List ℤ} {total start j : ℕ}
     (g : Reached lim w₀ w (counted c) ls total (trying (area-state lim w) total start (drop start ls))) (o : NextIs (area-state lim w) ls start j) where
-  pub ends-list : length ls ≤ j → Ends lim w₀ w ls (done-with total j c)
+  pub ends-list : length ls ≤ j → Ends lim w₀ w ls (unopposed-with 0 total j c)
   ends-list l = ends-here j g (o .passed total ∙ try-past (area-state lim w) ls j total l)
 
   module _ (w′ : List ℕ) (c′ : t.Counters) (code : ℕ) (t : Tried lim w w′ (counted c) (counted c′) (nth ls j) code) (l : j < length ls) where
-    pub ends-level : ¬ (code ≡ 0) → Ends lim w₀ w′ ls (done-with total j c′)
+    pub ends-level : ¬ (code ≡ 0) → Ends lim w₀ w′ ls (unopposed-with 0 total j c′)
     ends-level d =
         let f = t .refused d in
         let e = o .passed total ∙ try-highest (area-state lim w) ls j total l (o .is-open l) (f .highest) in

@@ -69,8 +69,9 @@ pub record Tried (lim : Limits) (w w′ : List ℕ) (c c′ : Counters) (l : ℤ
 abbrev pub Summable : Propagated → ℕ → Type 0
 Summable a total = total + propagated-paper a .value ≤ 8192
 
-abbrev pub refused-with : ℕ → t.Counters → Searched
-refused-with code c = record { code = code; sentence = record { 0 = 0 }; count = 0; gone = 0; counters = c }
+-- with no sentence in conflict
+abbrev pub unopposed-with : (code count gone : ℕ) → t.Counters → Searched
+unopposed-with code count gone c = record { code = code; sentence = record { 0 = 0 }; count = count; gone = gone; counters = c }
 
 -- an answer of propagate as the end, with so many literals derived before and so many of the list gone through
 abbrev pub ended-by : Propagated → (total gone : ℕ) → Searched

@@ -12,7 +12,7 @@ ghost use Rattle.book.specs.Book as book;
 ghost use Rattle.area.specs.Whole.{Whole};
 ghost use Rattle.calls.specs.Calls.{area-state, counted, Acts};
 ghost use Rattle.search.specs.Search.{searched-paper, AllKnown};
-ghost use Rattle.search.specs.Turn.{Searchable, NextAsked, NextIs, Tryable, Tried, Summable, refused-with, ended-by, Ends};
+ghost use Rattle.search.specs.Turn.{Searchable, NextAsked, NextIs, Tryable, Tried, Summable, unopposed-with, ended-by, Ends};
 
 // 0 or the refusal; the sentence in conflict, 0 for none; the literals derived, over all turns; the literals of the list gone through; the
 // counters after it.
@@ -24,15 +24,15 @@ pub struct Searched {
     pub counters: Counters,
 }
 
-// A refused search has gone through nothing.
-fn refusal(code: u64, counters: Counters) -> Searched
-    ensures { λ r. ⌜ r ≡ refused-with code counters ⌝ }
+// No sentence is in conflict.
+fn unopposed(code: u64, count: u64, gone: u64, counters: Counters) -> Searched
+    ensures { λ r. ⌜ r ≡ unopposed-with code count gone counters ⌝ }
 {
     Searched {
         code,
         sentence: Sentence(0),
-        count: 0,
-        gone: 0,
+        count,
+        gone,
         counters,
     }
 }
@@ -41,16 +41,16 @@ fn refusal(code: u64, counters: Counters) -> Searched
 pub fn all_known(literals: &[i64], n: u64) -> bool
     ensures { λ r. ⌜ Tells r (AllKnown n (now (literals .entry))) ⌝ }
 {
-    let mut j: usize = 0;
-    while j < literals.len() {
-        let size = signed::size(literals[j]);
+    let mut k: usize = 0;
+    while k < literals.len() {
+        let size = signed::size(literals[k]);
         if size == 0 {
             return false;
         }
         if size > n {
             return false;
         }
-        j += 1;
+        k += 1;
     }
     true
 }
@@ -130,24 +130,12 @@ fn search_whole(area: &mut [u64], lim: Limits, counters: Counters, literals: &[i
         total += count;
         let j = next_open(area, literals, i);
         if j == literals.len() {
-            return Searched {
-                code: 0,
-                sentence: Sentence(0),
-                count: total,
-                gone: j as u64,
-                counters: after,
-            };
+            return unopposed(0, total, j as u64, after);
         }
         let tried = try_literal(area, lim, after, literals[j]);
         let next = tried.counters;
         if tried.code != 0 {
-            return Searched {
-                code: 0,
-                sentence: Sentence(0),
-                count: total,
-                gone: j as u64,
-                counters: next,
-            };
+            return unopposed(0, total, j as u64, next);
         }
         current = next;
         i = j + 1;
@@ -166,11 +154,11 @@ pub fn search_within(
     ensures { λ r. ⌜ Acts lim (now (area .entry)) (now (area .exit)) (counted counters) (counted (r .counters)) (search (now (literals .entry))) (searched-paper r) ⌝ }
 {
     if !whole::is_whole(area, lim, counters.length, counters.level.0) {
-        return refusal(9, counters);
+        return unopposed(9, 0, 0, counters);
     }
     let n = area[0] % 65536;
     if !all_known(literals, n) {
-        return refusal(10, counters);
+        return unopposed(10, 0, 0, counters);
     }
     search_whole(area, lim, counters, literals)
 }

@@ -19,7 +19,7 @@ use Rattle.propagate.specs.declared.Propagated.{Propagated}
 use Rattle.propagate.specs.Propagate.{propagated-paper}
 use Rattle.search.specs.declared.Searched.{Searched}
 use Rattle.search.specs.Search.{AllKnown}
-use Rattle.search.specs.Turn.{nth, NextIs, Tryable, Tried, Ends}
+use Rattle.search.specs.Turn.{nth, NextIs, Tryable, Tried, unopposed-with, Ends}
 use Rattle.search.proofs.Passing.{turns, known-at}
 use Rattle.search.proofs.Turning.{Reached, reached-first, after-small, reached-still, ends-answer, ends-list, ends-level, reached-given}
 use borrow.Author.Needs.{needs}
@@ -114,7 +114,9 @@ same-length-2 : tie.Need-same-length-2 Inv-loop μ-loop
 same-length-2 c = search needs
 
 returns-2 : tie.Need-returns-2 Inv-loop μ-loop
-returns-2 c = ends-list (c .before .before .before .before .before .before .before .before .before .before .before .before .args .lim) (stopped (c .before .before .before)) (next (c .before)) (omega (arith, c .if1 .taken))
+returns-2 c = let s = c .before .before .before .before .before .before .before .before .before .before .before .before .before in
+    subst (λ (r : Searched). Ends (s .args .lim) (s .args .area .now) (c .before .before .before .before .before .before .before .before .before .propagate-whole .last .0) (s .args .literals .now) r) (sym (c .unopposed .ensures))
+    (ends-list (s .args .lim) (stopped (c .before .before .before .before)) (next (c .before .before)) (omega (arith, c .before .if1 .taken)))
 
 mul-try-literal : tie.Need-mul-try-literal Inv-loop μ-loop
 mul-try-literal c = omega (arith, inside (c .before))
@@ -135,11 +137,18 @@ try-literal-requires c κs = let s = c .before .before .before .before .before .
       off = next (c .before .before .before) .is-open l;
     })
 
+-- at the highest level
+highest : (c : tie.Then2 Inv-loop μ-loop) → Ends (c .before .before .before .before .before .before .before .before .before .before .before .before .before .before .before .before .before .before .before .before .args .lim) (c .before .before .before .before .before .before .before .before .before .before .before .before .before .before .before .before .before .before .before .before .args .area .now) (c .before .before .before .before .before .try-literal .last .0) (c .before .before .before .before .before .before .before .before .before .before .before .before .before .before .before .before .before .before .before .before .args .literals .now) (unopposed-with 0 (c .before .before .before .before .before .before .before .before .before .before .before .before .before .before .before .before .before .before .loop .total + c .before .before .before .before .before .before .before .before .before .before .before .before .answer .given .0 .0) (c .before .before .before .before .before .before .before .before .before .next-open .result) (c .before .before .before .before .before .try-literal .result .counters))
+highest c = let s = c .before .before .before .before .before .before .before .before .before .before .before .before .before .before .before .before .before .before .before .before in
+    let t = c .before .before .before .before .before .try-literal in
+    ends-level (s .args .lim) (stopped (c .before .before .before .before .before .before .before .before .before .before .before)) (next (c .before .before .before .before .before .before .before .before .before)) (t .last .0) (t .result .counters) (t .result .code) (tried-here (c .before .before .before .before .before)) (inside (c .before .before .before .before .before .before .before .before)) (c .if2 .taken)
+
 same-length-3 : tie.Need-same-length-3 Inv-loop μ-loop
-same-length-3 c = search needs
+same-length-3 c = highest (c .before) .moved .size
 
 returns-3 : tie.Need-returns-3 Inv-loop μ-loop
-returns-3 c = ends-level (c .before .before .before .before .before .before .before .before .before .before .before .before .before .before .before .before .before .before .before .before .args .lim) (stopped (c .before .before .before .before .before .before .before .before .before .before .before)) (next (c .before .before .before .before .before .before .before .before .before)) (c .before .before .before .before .before .try-literal .last .0) (c .before .before .before .before .before .try-literal .result .counters) (c .before .before .before .before .before .try-literal .result .code) (tried-here (c .before .before .before .before .before)) (inside (c .before .before .before .before .before .before .before .before)) (c .if2 .taken)
+returns-3 c = let s = c .before .before .before .before .before .before .before .before .before .before .before .before .before .before .before .before .before .before .before .before .before in
+    subst (λ (r : Searched). Ends (s .args .lim) (s .args .area .now) (c .before .before .before .before .before .before .try-literal .last .0) (s .args .literals .now) r) (sym (c .unopposed2 .ensures)) (highest (c .before))
 
 add-i : tie.Need-add-i Inv-loop μ-loop
 add-i c = let b : Fits w64 (c .before .before .before .before .before .before .before .before .before .next-open .result * 8) = mul-try-literal (c .before .before .before .before .before .before .before) in
@@ -175,11 +184,13 @@ search-whole-spec =
     returns
     add-total
     next-open-requires
+    (λ c κs. search needs)
     same-length-2
     returns-2
     mul-try-literal
     shared-slice-copy-out-try-literal
     try-literal-requires
+    (λ c κs. search needs)
     same-length-3
     returns-3
     add-i

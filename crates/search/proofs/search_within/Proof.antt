@@ -18,7 +18,7 @@ returns c = let s = c .before .before .before .before .before in
     let w = s .args .area .now in
     let had = counted (s .args .counters) in
     let ls = s .args .literals .now in
-    subst (λ (r : Searched). Acts (s .args .lim) w w had (counted (r .counters)) (table.search ls) (searched-paper r)) (sym (c .refusal .ensures))
+    subst (λ (r : Searched). Acts (s .args .lim) w w had (counted (r .counters)) (table.search ls) (searched-paper r)) (sym (c .unopposed .ensures))
     (acts-broken (s .args .lim) w had (table.search ls) _ (denied (c .before .before .is-whole .ensures) (c .before .if1 .taken)) refl)
 
 -- what the check has told
@@ -33,7 +33,7 @@ returns-2 c = let s = c .before .before .before .before .before .before .before 
     let w = s .args .area .now in
     let had = counted (s .args .counters) in
     let ls = s .args .literals .now in
-    subst (λ (r : Searched). Acts (s .args .lim) w w had (counted (r .counters)) (table.search ls) (searched-paper r)) (sym (c .refusal2 .ensures))
+    subst (λ (r : Searched). Acts (s .args .lim) w w had (counted (r .counters)) (table.search ls) (searched-paper r)) (sym (c .unopposed2 .ensures))
     (acts-strange (s .args .lim) w ls had (whole (c .before .before .before .before)) (denied (c .before .before .all-known .ensures) (c .before .if2 .taken)))
 
 search-whole-requires : tie.Need-search-whole-requires
