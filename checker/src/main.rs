@@ -238,7 +238,6 @@ fn run_lists(library: &dyn Library, seed: Option<u64>) -> Result<(), String> {
     if seed.is_none() {
         every_code_seen(&tally)?;
     }
-    let reached = if seed.is_none() { tally.reach.said().map_err(|what| format!("calls: {what}"))? } else { String::new() };
     println!("calls: codes of each call: {:?}", tally.codes);
     println!("calls: propagate put on {} literals and met {} conflicts", tally.derived, tally.conflicts);
     println!("calls: areas that were not whole: {:?}; changed and whole: {}", tally.broken, tally.whole);
@@ -248,7 +247,9 @@ fn run_lists(library: &dyn Library, seed: Option<u64>) -> Result<(), String> {
         tally.calls,
         (seeds.end - seeds.start) as f64 / seconds
     );
-    println!("calls: {reached}");
+    if seed.is_none() {
+        println!("calls: {}", tally.reach.said().map_err(|what| format!("calls: {what}"))?);
+    }
     Ok(())
 }
 
