@@ -11,18 +11,12 @@ use lib.IntN.{ℤ}
 use lib.Dec.{T, eqb, eqb→eq, eqb-refl}
 use Rattle.meaning.specs.Meaning.{Assignment, atom, truth, holds, Entry, chosen, aggregate, comparison, Sentence, Satisfied, Agrees, Consistent, Conflict, Forced, On}
 use Rattle.meaning.specs.Merge.{raised, merged-value, Rule, rule-of, places, scope, as-sentence}
+use Rattle.meaning.specs.Represents.{merged-comparison}
 use Rattle.book.specs.Rows.{pick, causes}
 use Rattle.meaning.proofs.Trails.{truth-wanted, agrees-from}
-use Rattle.meaning.proofs.Stored.{merged-comparison, satisfied-stored, satisfied-written}
-use Rattle.book.proofs.Number.{In}
+use Rattle.meaning.proofs.Stored.{satisfied-stored, satisfied-written}
+use Rattle.book.specs.Sound.{In, BlindOutside, Blind}
 use Rattle.book.specs.Means.{Among}
-
--- no atom outside the list counts
-pub record BlindOutside (sc : List ℕ) (s : Sentence) : Type 0 where
-  pub unseen : (σ σ′ : Assignment) → ((a : ℕ) → In a sc → σ′ a ≡ σ a) → Satisfied σ s → Satisfied σ′ s
-
-abbrev pub Blind : Sentence → Type 0
-Blind s = BlindOutside (scope (rule-of s)) s
 
 -- ---- where a merged set has the sentence's value
 

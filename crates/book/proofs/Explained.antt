@@ -15,9 +15,10 @@ use Rattle.book.specs.Book.{JudgesAll}
 use Rattle.meaning.proofs.Trails.{opposite-holds}
 use Rattle.meaning.proofs.Members.{same→eq, eq→same}
 use Rattle.book.specs.Means.{IsNumber, Among, Some, EntailedBy, AllFalse, Explains, ExplainsConflict}
-use Rattle.book.proofs.Number.{numbered-each, In}
-use Rattle.book.proofs.Sound.{Reasoned, Sits, Sound, consistent}
-use Rattle.book.proofs.Blind.{BlindOutside, Blind, causes-from, forced-by-causes, conflict-by-causes}
+use Rattle.book.specs.Sound.{In, Reasoned, Sits, Sound, BlindOutside, Blind}
+use Rattle.book.proofs.Number.{numbered-each}
+use Rattle.book.proofs.Sound.{consistent}
+use Rattle.book.proofs.Blind.{causes-from, forced-by-causes, conflict-by-causes}
 
 -- ---- negations
 

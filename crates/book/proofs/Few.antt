@@ -11,7 +11,7 @@ use lib.Dec.{T, eqb, eqb→eq}
 use borrow.Author.Tests.{eqb-false}
 use Rattle.meaning.specs.Meaning.{atom, Sentence, On, Each}
 use Rattle.book.specs.Rows.{Row, trail}
-use Rattle.book.proofs.Sound.{Within, Sound}
+use Rattle.book.specs.Sound.{Within, Sound}
 
 abbrev pub Off : ℕ → List ℕ → Type 0
 Off a bs = Each (λ b. ¬ (b ≡ a)) bs

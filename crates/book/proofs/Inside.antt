@@ -5,7 +5,7 @@ use mathlib.Core.List.{List, [], _∷_}
 use Prim.Native.Nat.{ℕ}
 use lib.IntN.{ℤ}
 use Rattle.meaning.specs.Meaning.{atom, Sentence, Forced, Open, FirstForced}
-use Rattle.book.proofs.Number.{In}
+use Rattle.book.specs.Sound.{In}
 
 pub record ForcedInside (s : Sentence) (t : List ℤ) (sc : List ℕ) (l : ℤ) : Type 0 where
   pub inside : In (atom l) sc

@@ -6,15 +6,15 @@ use Prim.Native.Nat.{ℕ, _≤_}
 use Rattle.numbers.specs.Extended.{up, down}
 use Rattle.meaning.specs.Meaning.{place, Sentence, Each}
 use Rattle.meaning.specs.Merge.{merge, rule-of}
-use Rattle.meaning.proofs.Represents.{Represents}
+use Rattle.meaning.specs.Represents.{Represents}
 use Rattle.meaning.proofs.Merging.{merge-represents}
 use Rattle.meaning.proofs.Members.{each-both, merge-places}
 use Rattle.meaning.proofs.Gather.{each-map}
 use Rattle.meaning.proofs.Extremes.{extreme-furthest}
 use Rattle.meaning.proofs.Says.{says-right}
 use Rattle.book.specs.Book.{Judges, JudgesAll, judged, judged-all, rules-of, WellFormed}
-use Rattle.book.proofs.Sound.{Within, Scoped}
-use Rattle.book.proofs.Blind.{Blind, written-blind}
+use Rattle.book.specs.Sound.{Within, Scoped, Blind}
+use Rattle.book.proofs.Blind.{written-blind}
 
 module _ (n : ℕ) where
   represents : (s : Sentence) → WellFormed n s → Represents s (merge (s .kind) (s .entries))

@@ -13,7 +13,8 @@ use Rattle.book.specs.Rows.{Row, row, trail, any}
 use Rattle.book.specs.Table.{Judged, State, Outcome, Call, give, open-level, take-back, propagate, search, bounds, explain, explain-conflict, origin, list-trail, Speech, nothing, objects, derives, speech, Stop, run, propagated, no-atom, on-trail, refusals, End, end, apart, put-on, propagating, following, turning, tried, trying, searching, effect}
 use Rattle.book.specs.Book.{JudgesAll, Book, Asked, book-state, turn, after, played}
 use Rattle.book.proofs.Speech.{derived-of}
-use Rattle.book.proofs.Sound.{Within, Scoped, Sound, consistent, sound-higher, up-to-sound, give-sound, derive-sound}
+use Rattle.book.specs.Sound.{Within, Scoped, Sound, SoundBook}
+use Rattle.book.proofs.Sound.{consistent, sound-higher, up-to-sound, give-sound, derive-sound}
 use Rattle.book.proofs.Tests.{on-tells, both-told, none-first, none-rest, Passed, reply-is}
 
 -- a step of propagate, by what is said
@@ -84,9 +85,6 @@ module _ (x : Bool) (n top : ℕ) (ss : List Sentence) (js : List Judged) (w : E
 
   pub searching-sound : (ls : List ℤ) (v : ℕ) (rs : List Row) → T (not (any (no-atom (here v rs)) ls)) → Sound n ss v rs → Ends (searching (here v rs) ls)
   searching-sound ls v rs t h = turning-sound 0 0 v rs (λ p e. trying p e 0 ls) h (λ rs′ e k. trying-sound ls e 0 v rs′ t k)
-
-abbrev pub SoundBook : Book → Type 0
-SoundBook b = Sound (b .atoms) (b .sentences) (b .level) (b .rows)
 
 module _ (lim : Limits) (js : List Judged) (b : Book) (w : Each (Scoped (b .atoms)) (b .sentences)) (m : JudgesAll (b .sentences) js) (h : SoundBook b) (a : Asked) where
   abbrev q : State

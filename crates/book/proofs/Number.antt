@@ -1,6 +1,6 @@
 -- The elements of a list by their numbers, counted from 1, and the atoms of a list. Each judgement has its sentence's number.
 use mathlib.Core.Path.{_≡_, refl, sym, _∙_, subst}
-use mathlib.Core.Logic.{_⊎_, inl, inr}
+use mathlib.Core.Logic.{inl, inr}
 use mathlib.Core.List.{List, [], _∷_}
 use Prim.Native.Nat.{ℕ, zero, suc, _≤_}
 use native.Mathlib.Omega.{arith}
@@ -10,6 +10,7 @@ use Rattle.book.specs.Rows.{numbered}
 use Rattle.book.specs.Table.{Judged}
 use Rattle.book.specs.Book.{Judges, JudgesAll}
 use Rattle.book.specs.Means.{IsNumber}
+use Rattle.book.specs.Sound.{In}
 
 module _ {A : Type 0} where
   pub numbered-one : (k : ℕ) (xs : List A) (x y : A) → IsNumber k xs x → IsNumber k xs y → x ≡ y
@@ -52,10 +53,6 @@ judges-length (s ∷ ss) [] m = absurd m
 judges-length (s ∷ ss) (j ∷ js) m = let e = judges-length ss js (m .1) in omega (arith, e)
 
 -- ---- atoms of a list
-
-abbrev pub In : ℕ → List ℕ → Type 0
-In a [] = ⊥
-In a (b ∷ bs) = (b ≡ a) ⊎ In a bs
 
 pub in-each : (P : ℕ → Type 0) (a : ℕ) (bs : List ℕ) → In a bs → Each P bs → P a
 in-each P a [] h e = absurd h

@@ -19,8 +19,9 @@ use Rattle.meaning.proofs.Members.{same→eq, eq→same}
 use Rattle.book.proofs.Number.{numbered-each, numbered-positive}
 use Rattle.book.specs.Means.{Among, NoTwice, GivenNoLater, OriginList}
 use Rattle.book.proofs.Tests.{among-on, any-told, any-tells}
-use Rattle.book.proofs.Sound.{Reasoned, Sound, consistent}
-use Rattle.book.proofs.Blind.{Blind, causes-from, agrees-each, each-agrees, forced-by-causes}
+use Rattle.book.specs.Sound.{Reasoned, Sound, Blind}
+use Rattle.book.proofs.Sound.{consistent}
+use Rattle.book.proofs.Blind.{causes-from, agrees-each, each-agrees, forced-by-causes}
 use Rattle.book.proofs.Explained.{scope-numbered}
 use Rattle.book.proofs.InOrder.{order-from, order-all, order-no-twice, order-ordered}
 

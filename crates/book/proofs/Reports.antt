@@ -20,8 +20,7 @@ use Rattle.book.specs.Means.{IsNumber, Bounded, Explains, ExplainsConfli
 use Rattle.book.proofs.Number.{numbered-exists, judges-numbered, judges-length}
 use Rattle.book.proofs.Tests.{stands-told, both-told, Passed, reply-is}
 use Rattle.book.proofs.Sound.{consistent}
-use Rattle.book.proofs.Keeps.{SoundBook}
-use Rattle.book.proofs.Blind.{Blind}
+use Rattle.book.specs.Sound.{Blind, SoundBook}
 use Rattle.book.proofs.Explained.{explained, conflict-explained}
 use Rattle.book.proofs.Origins.{originates}
 

@@ -7,36 +7,28 @@ use Prim.Native.Nat.{ℕ, zero, suc, _+_, _-_, _≤_, _<_}
 use native.Mathlib.Omega.{arith}
 use lib.ListN.{length, length-append}
 use lib.IntN.{ℤ}
-use Rattle.meaning.specs.Meaning.{Sentence, Conflict, Said, silent, conflict, forced, Each}
+use Rattle.meaning.specs.Meaning.{Sentence, Said, silent, conflict, forced, Each}
 use Rattle.book.specs.Rows.{Row, row, trail}
 use Rattle.book.specs.Table.{Judged, Speech, nothing, objects, derives, spoken, speech, Stop, run}
 use Rattle.book.specs.Book.{JudgesAll}
+use Rattle.book.specs.Means.{SaysNothing, ForcesFirst, Speaker, Clashes, DerivedRows, Additions}
 use Rattle.book.proofs.Number.{numbered-positive}
-use Rattle.book.proofs.Speech.{SaysNothing, ForcesFirst, Speaker, silent-of, conflict-of, derived-of}
-use Rattle.book.proofs.Sound.{Scoped, Sound, consistent, derive-sound}
+use Rattle.book.proofs.Speech.{silent-of, conflict-of, derived-of}
+use Rattle.book.specs.Sound.{Scoped, Sound, Runs, rests, clashes, puts}
+use Rattle.book.proofs.Sound.{consistent, derive-sound}
 use Rattle.book.proofs.Few.{few-rows}
 use Rattle.book.proofs.Keeps.{next}
 
--- step after step, until nothing is said (0) or sentence k is in conflict (k)
-pub data Runs (js : List Judged) (v : ℕ) : List Row → ℕ → List Row → Type 0 where
-  rests : {rs : List Row} → speech 1 js (trail rs) ≡ nothing → Runs js v rs 0 rs
-  clashes : {rs : List Row} {k : ℕ} → speech 1 js (trail rs) ≡ objects k → Runs js v rs k rs
-  puts : {rs rs′ : List Row} {k e : ℕ} {l : ℤ} → speech 1 js (trail rs) ≡ derives k l → Runs js v (row l v k ∷ rs) e rs′ → Runs js v rs e rs′
-
--- the rows put on over some rows, each at the level v and derived over those before it
-module _ (ss : List Sentence) (v : ℕ) (rs : List Row) where
-  pub record DerivedRow (r : Row) (before : List Row) : Type 0 where
-    pub level-is : r .level ≡ v
-    pub forced-by : Speaker (trail before) (ForcesFirst (trail before) (r .literal)) ss (r .reason)
-
-  abbrev pub DerivedRows : List Row → Type 0
-  DerivedRows [] = Unit {0}
-  DerivedRows (r ∷ added) = DerivedRow r (added ++ rs) × DerivedRows added
-
-  pub record Additions (rows : List Row) : Type 0 where
-    pub added : List Row
-    pub rows-are : rows ≡ added ++ rs
-    pub derived : DerivedRows added
+-- lists of judgements that say the same run alike
+pub run-alike : (js js′ : List Judged) → ((t : List ℤ) → speech 1 js t ≡ speech 1 js′ t) → (v steps : ℕ) (rs : List Row) → run js v steps rs ≡ run js′ v steps rs
+unfolding run
+run-alike js js′ same v zero rs = refl
+run-alike js js′ same v (suc steps) rs = ap (next js v steps rs) (same (trail rs)) ∙ go (speech 1 js′ (trail rs)) (λ l k. run-alike js js′ same v steps (row l v k ∷ rs))
+  where
+    go : (y : Speech) → ((l : ℤ) (k : ℕ) → run js v steps (row l v k ∷ rs) ≡ run js′ v steps (row l v k ∷ rs)) → next js v steps rs y ≡ next js′ v steps rs y
+    go nothing ih = refl
+    go (objects k) ih = refl
+    go (derives k l) ih = ih l k
 
 -- nothing is said only where every judgement is silent
 quiet-judgements : (k : ℕ) (js : List Judged) (t : List ℤ) → speech k js t ≡ nothing → Each (λ j. j .says t ≡ silent) js
@@ -103,7 +95,7 @@ module _ (n : ℕ) (ss : List Sentence) (js : List Judged) (w : Each (Scoped n) 
     end : LastStep (stop .sentence) (stop .rows)
     end = last-step rs (stop .sentence) (stop .rows) h (run-settles rs h)
 
-    clash-speaks : (k : ℕ) → speech 1 js (trail (stop .rows)) ≡ objects k → Speaker (trail (stop .rows)) (λ s. Conflict s (trail (stop .rows))) ss k
+    clash-speaks : (k : ℕ) → speech 1 js (trail (stop .rows)) ≡ objects k → Clashes ss (trail (stop .rows)) k
     clash-speaks k e = conflict-of (trail (stop .rows)) (consistent n ss v (stop .rows) (end .sound)) ss js m k e
 
     nothing-said : stop .sentence ≡ 0 → speech 1 js (trail (stop .rows)) ≡ nothing
@@ -122,11 +114,11 @@ module _ (n : ℕ) (ss : List Sentence) (js : List Judged) (w : Each (Scoped n) 
     still-means z = silent-of (trail (stop .rows)) (consistent n ss v (stop .rows) (end .sound)) ss js m (nothing-said z)
 
     -- a conflict is that of the lowest-numbered sentence that is not silent
-    pub clash-means : (k : ℕ) → stop .sentence ≡ suc k → Speaker (trail (stop .rows)) (λ s. Conflict s (trail (stop .rows))) ss (suc k)
+    pub clash-means : (k : ℕ) → stop .sentence ≡ suc k → Clashes ss (trail (stop .rows)) (suc k)
     clash-means k z = go (stop .sentence) (end .last) z
       where
         go : (e : ℕ) → ((e ≡ 0) × (speech 1 js (trail (stop .rows)) ≡ nothing)) ⊎ (speech 1 js (trail (stop .rows)) ≡ objects e) → e ≡ suc k
-            → Speaker (trail (stop .rows)) (λ s. Conflict s (trail (stop .rows))) ss (suc k)
+            → Clashes ss (trail (stop .rows)) (suc k)
         go e (inl x) z = let y = x .0 in absurd (omega (arith, y, z))
         go e (inr q) z = clash-speaks (suc k) (q ∙ ap objects z)
 

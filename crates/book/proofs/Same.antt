@@ -17,9 +17,10 @@ use Rattle.meaning.proofs.Says.{says-unique}
 use Rattle.meaning.proofs.Extremes.{furthest-unique}
 use Rattle.book.proofs.Number.{judges-length}
 use Rattle.book.proofs.Speech.{derived-of}
-use Rattle.book.proofs.Sound.{Scoped, Sound, consistent, derive-sound}
+use Rattle.book.specs.Sound.{Scoped, Sound, SoundBook}
+use Rattle.book.proofs.Sound.{consistent, derive-sound}
 use Rattle.book.proofs.Tests.{none-first, none-rest, Passed, decided-under}
-use Rattle.book.proofs.Keeps.{next, atom-told, state-at, propagated-sound, tried-sound, SoundBook, turn-sound}
+use Rattle.book.proofs.Keeps.{next, atom-told, state-at, propagated-sound, tried-sound, turn-sound}
 
 -- ---- two judgements of a sentence
 

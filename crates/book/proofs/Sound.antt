@@ -2,61 +2,37 @@
 -- literal forced by its reason over the rows before it. A trail of such rows is consistent, and each step keeps them so.
 use mathlib.Core.Path.{_≡_, refl, sym, _∙_, ap, subst}
 use mathlib.Core.Bool.{Bool, true, false, cond}
-use mathlib.Core.Logic.{_⊎_, inl, inr}
+use mathlib.Core.Logic.{inl, inr}
 use mathlib.Core.List.{List, [], _∷_}
 use Prim.Native.Nat.{ℕ, _≤_}
 use native.Mathlib.Omega.{arith}
 use lib.IntN.{ℤ}
 use lib.Dec.{T, leb, leb→le}
 use borrow.Author.Tests.{le-leb}
-use Rattle.meaning.specs.Meaning.{atom, Sentence, Consistent, Forced, On, Each}
+use Rattle.meaning.specs.Meaning.{atom, Sentence, Consistent, On, Each}
 use Rattle.meaning.specs.Merge.{rule-of, scope}
 use Rattle.book.specs.Rows.{Row, row, trail, up-to}
 use Rattle.meaning.proofs.Trails.{put-on}
-use Rattle.book.specs.Means.{IsNumber}
-use Rattle.book.proofs.Number.{numbered-each, In, in-each}
+use Rattle.book.specs.Means.{ForcesFirst, Speaker}
+use Rattle.book.specs.Sound.{Within, Scoped, Sits, Sound}
+use Rattle.book.proofs.Number.{numbered-each, in-each}
 use Rattle.book.proofs.Inside.{ForcedInside, first-forced-inside}
-use Rattle.book.proofs.Speech.{ForcesFirst, Speaker}
-
-abbrev pub Within : ℕ → ℕ → Type 0
-Within n a = (1 ≤ a) × (a ≤ n)
-
--- the atoms that a sentence is scanned at are 1 to n
-abbrev pub Scoped : ℕ → Sentence → Type 0
-Scoped n s = Each (Within n) (scope (rule-of s))
 
 module _ (n : ℕ) (ss : List Sentence) where
-  -- the reason is a sentence that has the atom in its scope and forces the literal
-  pub record Reasoned (r : Row) (before : List Row) : Type 0 where
-    pub sentence : Sentence
-    pub number : IsNumber (r .reason) ss sentence
-    pub inside : In (atom (r .literal)) (scope (rule-of sentence))
-    pub forces : Forced sentence (trail before) (r .literal)
-
-  pub record Sits (v : ℕ) (r : Row) (before : List Row) : Type 0 where
-    pub low : r .level ≤ v
-    pub atom-within : Within n (atom (r .literal))
-    pub off : ¬ (On (atom (r .literal)) (trail before))
-    pub reason-is : (r .reason ≡ 0) ⊎ Reasoned r before
-
-  abbrev pub Sound : ℕ → List Row → Type 0
-  Sound v [] = Unit {0}
-  Sound v (r ∷ rs) = Sits v r rs × Sound (r .level) rs
-
-  pub consistent : (v : ℕ) (rs : List Row) → Sound v rs → Consistent (trail rs)
+  pub consistent : (v : ℕ) (rs : List Row) → Sound n ss v rs → Consistent (trail rs)
   consistent v [] h = ((λ a. false), tt)
   consistent v (r ∷ rs) h = put-on (r .literal) (trail rs) (h .0 .off) (consistent (r .level) rs (h .1))
 
-  lowered : (v v′ : ℕ) (r : Row) (rs : List Row) → r .level ≤ v′ → Sits v r rs → Sits v′ r rs
+  lowered : (v v′ : ℕ) (r : Row) (rs : List Row) → r .level ≤ v′ → Sits n ss v r rs → Sits n ss v′ r rs
   lowered v v′ r rs p x = record { low = p; atom-within = x .atom-within; off = x .off; reason-is = x .reason-is }
 
-  pub sound-higher : (v v′ : ℕ) (rs : List Row) → v ≤ v′ → Sound v rs → Sound v′ rs
+  pub sound-higher : (v v′ : ℕ) (rs : List Row) → v ≤ v′ → Sound n ss v rs → Sound n ss v′ rs
   sound-higher v v′ [] p h = tt
   sound-higher v v′ (r ∷ rs) p h = let q = h .0 .low in (lowered v v′ r rs (omega (arith, q, p)) (h .0), h .1)
 
   -- ---- take back
 
-  pub up-to-all : (v k : ℕ) (rs : List Row) → v ≤ k → Sound v rs → up-to k rs ≡ rs
+  pub up-to-all : (v k : ℕ) (rs : List Row) → v ≤ k → Sound n ss v rs → up-to k rs ≡ rs
   unfolding up-to
   up-to-all v k [] p h = refl
   up-to-all v k (r ∷ rs) p h =
@@ -64,21 +40,21 @@ module _ (n : ℕ) (ss : List Sentence) where
       let low : r .level ≤ k = omega (arith, q, p) in
       ap (λ b. cond b (r ∷ up-to k rs) (up-to k rs)) (le-leb (r .level) k low) ∙ ap (λ x. r ∷ x) (up-to-all (r .level) k rs low (h .1))
 
-  pub up-to-sound : (v k : ℕ) (rs : List Row) → Sound v rs → Sound k (up-to k rs)
+  pub up-to-sound : (v k : ℕ) (rs : List Row) → Sound n ss v rs → Sound n ss k (up-to k rs)
   unfolding up-to
   up-to-sound v k [] h = tt
   up-to-sound v k (r ∷ rs) h = go (leb (r .level) k) (λ t. leb→le (r .level) k t) (up-to-sound (r .level) k rs (h .1))
     where
-      go : (b : Bool) → (T b → r .level ≤ k) → Sound k (up-to k rs) → Sound k (cond b (r ∷ up-to k rs) (up-to k rs))
-      go true p ih = subst (λ x. Sound k (r ∷ x)) (sym (up-to-all (r .level) k rs (p tt) (h .1))) (lowered v k r rs (p tt) (h .0), h .1)
+      go : (b : Bool) → (T b → r .level ≤ k) → Sound n ss k (up-to k rs) → Sound n ss k (cond b (r ∷ up-to k rs) (up-to k rs))
+      go true p ih = subst (λ x. Sound n ss k (r ∷ x)) (sym (up-to-all (r .level) k rs (p tt) (h .1))) (lowered v k r rs (p tt) (h .0), h .1)
       go false p ih = ih
 
   -- ---- a literal more
 
-  pub give-sound : (v : ℕ) (rs : List Row) (l : ℤ) → Within n (atom l) → ¬ (On (atom l) (trail rs)) → Sound v rs → Sound v (row l v 0 ∷ rs)
+  pub give-sound : (v : ℕ) (rs : List Row) (l : ℤ) → Within n (atom l) → ¬ (On (atom l) (trail rs)) → Sound n ss v rs → Sound n ss v (row l v 0 ∷ rs)
   give-sound v rs l i o h = (record { low = omega arith; atom-within = i; off = o; reason-is = inl refl }, h)
 
-  pub derive-sound : Each (Scoped n) ss → (v : ℕ) (rs : List Row) (k : ℕ) (l : ℤ) → Sound v rs → Speaker (trail rs) (ForcesFirst (trail rs) l) ss k → Sound v (row l v k ∷ rs)
+  pub derive-sound : Each (Scoped n) ss → (v : ℕ) (rs : List Row) (k : ℕ) (l : ℤ) → Sound n ss v rs → Speaker (trail rs) (ForcesFirst (trail rs) l) ss k → Sound n ss v (row l v k ∷ rs)
   derive-sound w v rs k l h x = (
     record {
       low = omega arith;

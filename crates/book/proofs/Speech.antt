@@ -9,23 +9,8 @@ use Rattle.meaning.specs.Meaning.{Sentence, Consistent, Conflict, Said, silent,
 use Rattle.meaning.specs.Merge.{rule-of, scope}
 use Rattle.book.specs.Table.{Judged, Speech, nothing, objects, derives, spoken, speech}
 use Rattle.book.specs.Book.{JudgesAll}
-use Rattle.book.specs.Means.{IsNumber}
+use Rattle.book.specs.Means.{IsNumber, SaysNothing, ForcesFirst, Speaker}
 use Rattle.book.proofs.Number.{numbered-positive}
-
--- satisfiable, and no open literal is forced
-abbrev pub SaysNothing : List ℤ → Sentence → Type 0
-SaysNothing t s = Says s t [] silent
-
--- satisfiable, and the literal is the first that is forced
-abbrev pub ForcesFirst : List ℤ → ℤ → Sentence → Type 0
-ForcesFirst t l s = Says s t (scope (rule-of s)) (forced l)
-
--- the sentence of number k, which has the property, and those before it are silent
-pub record Speaker (t : List ℤ) (P : Sentence → Type 0) (ss : List Sentence) (k : ℕ) : Type 0 where
-  pub sentence : Sentence
-  pub number : IsNumber k ss sentence
-  pub speaks : P sentence
-  pub earlier : (i : ℕ) (s : Sentence) → i < k → IsNumber i ss s → SaysNothing t s
 
 module _ (t : List ℤ) where
   first-speaker : (P : Sentence → Type 0) (s : Sentence) (ss : List Sentence) → P s → Speaker t P (s ∷ ss) 1

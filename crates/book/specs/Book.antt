@@ -59,6 +59,9 @@ pub record Counters : Type 0 where
   pub length-is : ℕ
   pub level-is : ℕ
 
+abbrev pub counters : ℕ → ℕ → Counters
+counters len level = record { length-is = len; level-is = level }
+
 abbrev pub written : List Sentence → ℕ
 written [] = 0
 written (s ∷ ss) = length (s .entries) + written ss

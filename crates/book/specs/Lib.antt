@@ -4,3 +4,4 @@ pub mod Book
 pub mod Examples
 pub mod Means
 pub mod Made
+pub mod Sound

@@ -1,13 +1,14 @@
--- What the reports mean, by full assignments: the bounds of a sentence, the explanation of a derived literal and of a conflict, and the
--- origins of a literal.
+-- What the calls mean, by full assignments: what propagate puts on and where it stops, the bounds of a sentence, the explanation of a derived
+-- literal and of a conflict, and the origins of a literal.
 use mathlib.Core.Path.{_≡_}
 use mathlib.Core.Bool.{true}
 use mathlib.Core.Logic.{_⊎_}
-use mathlib.Core.List.{List, [], _∷_, reverse}
-use Prim.Native.Nat.{ℕ, zero, suc}
+use mathlib.Core.List.{List, [], _∷_, _++_, reverse}
+use Prim.Native.Nat.{ℕ, zero, suc, _<_}
 use lib.IntN.{ℤ, negℤ}
 use Rattle.numbers.specs.Extended.{Extended, up, down}
-use Rattle.meaning.specs.Meaning.{Assignment, holds, Sentence, Satisfied, Agrees, Furthest, Each}
+use Rattle.meaning.specs.Meaning.{Assignment, holds, Sentence, Satisfied, Agrees, Furthest, Conflict, silent, forced, Says, Each}
+use Rattle.meaning.specs.Merge.{rule-of, scope}
 use Rattle.book.specs.Rows.{Row, trail, row-of}
 
 -- ---- lists
@@ -39,6 +40,43 @@ pub data Subsequence : List ℤ → List ℤ → Type 0 where
   ends : Subsequence [] []
   takes : {x : ℤ} {xs ys : List ℤ} → Subsequence xs ys → Subsequence (x ∷ xs) (x ∷ ys)
   skips : {y : ℤ} {xs ys : List ℤ} → Subsequence xs ys → Subsequence xs (y ∷ ys)
+
+-- ---- propagate
+
+-- satisfiable, and no open literal is forced
+abbrev pub SaysNothing : List ℤ → Sentence → Type 0
+SaysNothing t s = Says s t [] silent
+
+-- satisfiable, and the literal is the first that is forced
+abbrev pub ForcesFirst : List ℤ → ℤ → Sentence → Type 0
+ForcesFirst t l s = Says s t (scope (rule-of s)) (forced l)
+
+-- the sentence of number k, which has the property, and those before it are silent
+pub record Speaker (t : List ℤ) (P : Sentence → Type 0) (ss : List Sentence) (k : ℕ) : Type 0 where
+  pub sentence : Sentence
+  pub number : IsNumber k ss sentence
+  pub speaks : P sentence
+  pub earlier : (i : ℕ) (s : Sentence) → i < k → IsNumber i ss s → SaysNothing t s
+
+-- sentence k is the lowest-numbered one that has something to say over the trail, and that is a conflict
+abbrev pub Clashes : List Sentence → List ℤ → ℕ → Type 0
+Clashes ss t k = Speaker t (λ s. Conflict s t) ss k
+
+-- the rows put on over some rows: each at the level v, its literal the first that its reason forces over the rows before it, where the
+-- reason is the lowest-numbered sentence that has something to say
+module _ (ss : List Sentence) (v : ℕ) (rs : List Row) where
+  pub record DerivedRow (r : Row) (before : List Row) : Type 0 where
+    pub level-is : r .level ≡ v
+    pub forced-by : Speaker (trail before) (ForcesFirst (trail before) (r .literal)) ss (r .reason)
+
+  abbrev pub DerivedRows : List Row → Type 0
+  DerivedRows [] = Unit {0}
+  DerivedRows (r ∷ added) = DerivedRow r (added ++ rs) × DerivedRows added
+
+  pub record Additions (rows : List Row) : Type 0 where
+    pub added : List Row
+    pub rows-are : rows ≡ added ++ rs
+    pub derived : DerivedRows added
 
 -- ---- bounds
 

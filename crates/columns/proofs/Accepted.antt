@@ -5,7 +5,7 @@ use mathlib.Core.Bool.{Bool, true, false}
 use Prim.Native.Nat.{ℕ, zero, suc, _+_, _<_, _≤_}
 use native.Mathlib.Omega.{arith}
 use lib.Dec.{eqb, ltb}
-use lib.ListN.{length, getD}
+use lib.ListN.{length}
 use borrow.Author.Tests.{eqb-true, eqb-false, ltb-true, ltb-false}
 use Rattle.types.specs.declared.Limits.{Limits}
 use Rattle.decide.specs.Below.{sum-first}
@@ -14,18 +14,11 @@ use Rattle.columns.specs.Columns.{Columns, Written, written-at, written-
 use Rattle.columns.specs.Refusals.{misshapen, need, load-answer}
 use Rattle.columns.specs.Indexed.{sentence-code, Passes}
 use Rattle.columns.specs.declared.Answer.{Answer}
+use Rattle.columns.specs.Decides.{Accepted}
 use Rattle.columns.proofs.Codes.{code-passes}
-use Rattle.columns.proofs.Shapes.{Shaped, shaped, inside}
+use Rattle.columns.proofs.Shapes.{shaped, inside}
 use Rattle.columns.proofs.Walk.{answer-from, from-first, from-here, from-later}
 use Rattle.columns.proofs.Answers.{answer-1, answer-2, answer-rest}
-
-pub record Accepted (lim : Limits) (words n : ℕ) (c : Columns) : Type 0 where
-  pub in-shape : misshapen lim n c ≡ false
-  pub enough : need n c ≤ words
-  pub passes : (s : ℕ) → s < length (c .heads) → Passes lim n (written-at c s)
-  -- by `in-shape`
-  pub shape : Shaped lim n c
-  pub entries-within : (s : ℕ) → s < length (c .heads) → sum-first (c .counts) s + getD (c .counts) s 0 ≤ length (c .weights)
 
 module _ (lim : Limits) (n : ℕ) (c : Columns) where
   abbrev code-at : ℕ → ℕ

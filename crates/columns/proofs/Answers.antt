@@ -10,7 +10,7 @@ use Rattle.columns.specs.Refusals.{misshapen, need, all-refusals, first-
 use Rattle.columns.specs.Indexed.{sizes, unequal-sizes}
 use Rattle.columns.specs.declared.Answer.{Answer}
 use Rattle.columns.proofs.Clauses.{neither, or-left, or-right}
-use Rattle.columns.proofs.Codes.{answer}
+use Rattle.columns.specs.Decides.{answer}
 use Rattle.columns.proofs.Shapes.{limits-passed, counts-add-up, misshapen-is}
 
 module _ (lim : Limits) (n : ℕ) (c : Columns) where

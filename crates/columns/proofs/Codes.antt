@@ -12,10 +12,7 @@ use Rattle.book.specs.Table.{Refusal}
 use Rattle.columns.specs.Columns.{Written}
 use Rattle.columns.specs.Refusals.{unknown, strange, out-of-range, own-head, mixed, too-great, about, sentence-refusals, first-refusal}
 use Rattle.columns.specs.Indexed.{sentence-code, Passes}
-use Rattle.columns.specs.declared.Answer.{Answer}
-
-abbrev pub answer : ℕ → ℕ → Answer
-answer code k = record { code = code; sentence = record { 0 = k } }
+use Rattle.columns.specs.Decides.{answer}
 
 -- ---- six tests in order
 

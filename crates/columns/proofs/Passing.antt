@@ -16,6 +16,7 @@ use Rattle.meaning.specs.Merge.{merge}
 use Rattle.meaning.proofs.Orders.{T-true, T-false}
 use Rattle.meaning.proofs.Gather.{each-map}
 use Rattle.meaning.proofs.Members.{eq→same}
+use Rattle.meaning.proofs.MergingValue.{merge-product}
 use Rattle.kinds.specs.Kinds.{weight-fits}
 use Rattle.kinds.proofs.Weights.{fits-weighable}
 use Rattle.book.specs.Book.{WellFormed}
@@ -25,7 +26,6 @@ use Rattle.columns.specs.Columns.{Written, sentence-of}
 use Rattle.columns.specs.Refusals.{some, no-atom, bound-fits, both-signs, is-product}
 use Rattle.columns.specs.Indexed.{Passes}
 use Rattle.columns.proofs.Clauses.{left-false, right-false, is-atom}
-use Rattle.columns.proofs.Written.{merged-product}
 
 none-of : (p : Entry → Bool) (es : List Entry) → some p es ≡ false → Each (λ e. p e ≡ false) es
 unfolding some
@@ -123,7 +123,7 @@ module _ (lim : Limits) (n : ℕ) (x : Written) (v : Passes lim n x) where
       T-true (not-false m (and-false (is-product (x .kind)) (not m) (v .small) t))
 
   pub written-product-within : kind-of (x .kind) ≡ product → T (leZ (multiplied (weights-of (x .entries))) (pos 1000000000000000000))
-  written-product-within e = subst (λ (z : ℤ). T (leZ z (pos 1000000000000000000))) (merged-product (x .entries)) (merged-product-within e)
+  written-product-within e = subst (λ (z : ℤ). T (leZ z (pos 1000000000000000000))) (merge-product (x .entries)) (merged-product-within e)
 
   pub well-formed : WellFormed n (sentence-of x)
   well-formed = record {

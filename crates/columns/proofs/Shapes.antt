@@ -14,6 +14,7 @@ use Rattle.columns.specs.Columns.{Columns}
 use Rattle.columns.specs.Refusals.{misshapen}
 use Rattle.columns.specs.Indexed.{sizes, above-limits, unequal-sizes}
 use Rattle.columns.specs.declared.Sizes.{Sizes}
+use Rattle.columns.specs.Decides.{Limited, Equal, Shaped}
 use Rattle.columns.proofs.Clauses.{left-false, right-false}
 
 -- ---- the test in the three parts that the code decides
@@ -36,12 +37,6 @@ misshapen-is lim n c =
 
 -- ---- what each part leaves
 
-pub record Limited (lim : Limits) (n sentences entries : ℕ) : Type 0 where
-  pub low : 1 ≤ n
-  pub high : n ≤ lim .atoms
-  pub few-sentences : sentences ≤ lim .sentences
-  pub few-entries : entries ≤ lim .entries
-
 pub limited : (lim : Limits) (n sentences entries : ℕ) → above-limits lim n sentences entries ≡ false → Limited lim n sentences entries
 limited lim n sentences entries e =
     let b1 = eqb n 0 || ltb (lim .atoms) n in
@@ -55,13 +50,6 @@ limited lim n sentences entries e =
       few-sentences = ltb-false (lim .sentences) sentences (right-false b1 (ltb (lim .sentences) sentences) e2);
       few-entries = ltb-false (lim .entries) entries (right-false b2 (ltb (lim .entries) entries) e);
     }
-
-pub record Equal (s : Sizes) : Type 0 where
-  pub kinds : s .kinds ≡ s .heads
-  pub sides : s .sides ≡ s .heads
-  pub bounds : s .bounds ≡ s .heads
-  pub counts : s .counts ≡ s .heads
-  pub literals : s .literals ≡ s .weights
 
 same : (a b : ℕ) → not (eqb a b) ≡ false → a ≡ b
 same a b e = eqb-true a b (not-false (eqb a b) e)
@@ -82,11 +70,6 @@ equal s e =
       counts = same (s .counts) (s .heads) (right-false b2 (not (eqb (s .counts) (s .heads))) e3);
       literals = same (s .literals) (s .weights) (right-false b3 (not (eqb (s .literals) (s .weights))) e);
     }
-
-pub record Shaped (lim : Limits) (n : ℕ) (c : Columns) : Type 0 where
-  pub within : Limited lim n (length (c .heads)) (length (c .weights))
-  pub equals : Equal (sizes c)
-  pub sum : sum-first (c .counts) (length (c .counts)) ≡ length (c .weights)
 
 pub shaped : (lim : Limits) (n : ℕ) (c : Columns) → misshapen lim n c ≡ false → Shaped lim n c
 shaped lim n c m =

@@ -3,7 +3,7 @@
 use mathlib.Core.Path.{_≡_, refl, sym, _∙_}
 use mathlib.Core.Bool.{Bool, true, false, cond}
 use mathlib.Core.List.{List, [], _∷_}
-use mathlib.Core.Logic.{_⊎_, inl, inr}
+use mathlib.Core.Logic.{inl, inr}
 use Prim.Native.Nat.{ℕ, suc}
 use native.Mathlib.Omega.{arith}
 use Rattle.types.specs.declared.Limits.{Limits}
@@ -11,18 +11,7 @@ use Rattle.meaning.specs.Meaning.{Each}
 use Rattle.book.specs.Table.{Refusal}
 use Rattle.columns.specs.Columns.{Columns, Written, all-written}
 use Rattle.columns.specs.Refusals.{all-refusals, load-refusals, first-refusal, load-answer}
-use Rattle.columns.specs.declared.Answer.{Answer}
-use Rattle.columns.proofs.Codes.{answer}
-
--- the answer is the first refusal that applies
-abbrev pub First : List Refusal → Answer → Type 0
-First [] a = ⊥
-First (r ∷ rs) a = ((r .applies ≡ true) × (a ≡ answer (r .code) (r .value))) ⊎ ((r .applies ≡ false) × First rs a)
-
-pub record Decides (rs : List Refusal) (a : Answer) : Type 0 where
-  pub none : a .code ≡ 0 → Each (λ r. r .applies ≡ false) rs
-  pub nothing : Each (λ r. r .applies ≡ false) rs → a ≡ answer 0 0
-  pub first : ¬ (a .code ≡ 0) → First rs a
+use Rattle.columns.specs.Decides.{Decides, answer}
 
 decides : (rs : List Refusal) → Each (λ r. ¬ (r .code ≡ 0)) rs → Decides rs (first-refusal rs)
 unfolding first-refusal

@@ -13,7 +13,8 @@ use Rattle.columns.specs.Columns.{Columns, written, written-at, written-
 use Rattle.columns.specs.Refusals.{all-refusals, first-refusal}
 use Rattle.columns.specs.Indexed.{nth, sentence-code}
 use Rattle.columns.specs.declared.Answer.{Answer}
-use Rattle.columns.proofs.Codes.{answer, here, later}
+use Rattle.columns.specs.Decides.{answer}
+use Rattle.columns.proofs.Codes.{here, later}
 
 -- of the sentences from s on, the first of which has number k
 abbrev behind : Limits → ℕ → Columns → ℕ → ℕ → ℕ → Answer

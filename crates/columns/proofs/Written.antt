@@ -2,7 +2,7 @@
 -- product of the written ones.
 use mathlib.Core.Path.{_≡_, refl, sym, ap, ap₂, _∙_}
 use mathlib.Core.Bool.{Bool, true, false, not, _||_, _&&_}
-use mathlib.Core.List.{List, [], _∷_}
+use mathlib.Core.List.{List}
 use Prim.Native.Nat.{ℕ, _<_, _≤_}
 use lib.IntN.{ℤ, pos, natAbs}
 use lib.ListN.{length}
@@ -12,9 +12,9 @@ use borrow.Author.Tests.{lt-ltb, le-ltb, leb-true, leb-false, eq-eqb, ne-eqb}
 use Rattle.types.specs.declared.Limits.{Limits}
 use Rattle.decide.specs.Below.{product-below}
 use Rattle.decide.proofs.Below.{none-has}
-use Rattle.meaning.specs.Meaning.{atom, Entry, mixes, product, multiplied}
+use Rattle.meaning.specs.Meaning.{atom, mixes, product, multiplied}
 use Rattle.meaning.specs.Merge.{merge}
-use Rattle.meaning.proofs.MergingValue.{weights, merge-product}
+use Rattle.meaning.proofs.MergingValue.{merge-product}
 use Rattle.kinds.specs.Kinds.{weight-fits}
 use Rattle.area.specs.Layout.{kind-of}
 use Rattle.area.specs.Whole.{weights-of}
@@ -23,15 +23,6 @@ use Rattle.columns.specs.Refusals.{unknown, no-atom, strange, bound-fits
 use Rattle.columns.specs.Indexed.{nth, unknown-shape, no-literal, unfit-weights, head-inside, negated, product-above}
 use Rattle.columns.proofs.Clauses.{product-weight}
 use Rattle.columns.proofs.Paired.{paired-length, paired-weights, some-literal, some-weight, both-signs-paired, multiplied-natural}
-
--- ---- the product of the merged weights is that of the written ones
-
-weights-same : (es : List Entry) → weights-of es ≡ weights es
-weights-same [] = refl
-weights-same (e ∷ es) = ap (λ ws. e .weight ∷ ws) (weights-same es)
-
-pub merged-product : (es : List Entry) → multiplied (weights-of (merge product es .entries)) ≡ multiplied (weights-of es)
-merged-product es = ap multiplied (weights-same (merge product es .entries)) ∙ merge-product es ∙ ap multiplied (sym (weights-same es))
 
 natural-leb : (a b : ℕ) → not (leb a b) ≡ ltb b a
 natural-leb a b = go (leb a b) (λ e. leb-true a b e) (λ e. leb-false a b e) refl
@@ -60,7 +51,7 @@ module _ (lim : Limits) (n head kind side : ℕ) (bound : ℤ) (ws ls : List ℤ
 
   written-product : unfit-weights 1 ws ≡ false → multiplied (weights-of (merge product (paired ws ls) .entries)) ≡ pos (product-below (length ws) (λ i. natAbs (nth ws i)))
   written-product f =
-      merged-product (paired ws ls) ∙ ap multiplied (paired-weights ws ls e)
+      merge-product (paired ws ls) ∙ ap multiplied (paired-weights ws ls e)
       ∙ multiplied-natural ws (λ i l. product-weight (nth ws i) (none-has i (length ws) (λ k. not (weight-fits product (nth ws k))) f l) .1)
 
   pub too-great-is : kind ≡ 1 → unfit-weights 1 ws ≡ false → too-great (written head kind side bound ws ls) ≡ product-above ws

@@ -1,3 +1,4 @@
 pub mod Columns
 pub mod Refusals
 pub mod Indexed
+pub mod Decides

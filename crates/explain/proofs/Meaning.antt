@@ -4,65 +4,33 @@
 use mathlib.Core.Path.{_≡_, refl, sym, _∙_, ap, subst}
 use mathlib.Core.Bool.{not}
 use mathlib.Core.List.{List, [], _∷_, map}
-use Prim.Native.Nat.{ℕ, zero, suc, _+_, _<_, _≤_}
+use Prim.Native.Nat.{ℕ, zero, suc, _<_, _≤_}
 use native.Mathlib.Omega.{arith}
 use lib.ListN.{length, getD}
-use lib.IntN.{ℤ, pos}
+use lib.IntN.{ℤ}
 use lib.Dec.{T, leb, leb→le}
 use Rattle.types.specs.declared.Limits.{Limits}
-use Rattle.meaning.specs.Meaning.{atom, Entry, place, Kind, sum, product, count, maximum, minimum, Sentence, Satisfied, Said, silent, conflict, forced, Says, weighable, mixes}
+use Rattle.meaning.specs.Meaning.{atom, Sentence, Satisfied, Said, silent, conflict, forced, Says}
 use Rattle.meaning.specs.Merge.{Rule, rule-of, scope, as-sentence}
 use Rattle.meaning.specs.Computed.{says}
-use Rattle.meaning.proofs.Represents.{Distinct}
-use Rattle.meaning.proofs.Gather.{each-map}
-use Rattle.meaning.proofs.Stored.{satisfied-written, IsMerged, says-stored}
+use Rattle.meaning.proofs.Stored.{satisfied-written, says-stored}
 use Rattle.book.specs.Rows.{Row, trail, numbered}
 use Rattle.book.specs.Table.{explain-conflict, listed, nobody, is-conflict, reply}
 use Rattle.book.specs.Book.{Counters, judged-all, rules-of}
 use Rattle.book.specs.Means.{IsNumber, Among, ExplainsConflict}
 use Rattle.book.proofs.Tests.{both-told}
 use Rattle.book.proofs.Reports.{listed-is}
-use Rattle.book.proofs.Blind.{BlindOutside, stored-blind}
+use Rattle.book.specs.Sound.{BlindOutside}
+use Rattle.book.proofs.Blind.{stored-blind}
 use Rattle.book.proofs.Explained.{conflict-listed}
-use Rattle.area.specs.Layout.{word, atoms-of, sentences-of, length-of, constant-of, record-at, rule-at, rows-of, theory-of}
-use Rattle.area.specs.Whole.{WeightWhole, EntryWhole, Once, RuleWhole, Whole}
+use Rattle.area.specs.Layout.{atoms-of, sentences-of, length-of, record-at, rule-at, rows-of, theory-of}
+use Rattle.area.specs.Whole.{Whole}
 use Rattle.theory_check.proofs.Rules.{rules-length, rules-numbered}
 use Rattle.whole.proofs.Gives.{consistent, judged-count, numbered-rule, row-atom-low}
+use Rattle.whole.proofs.Stored.{merged}
 use Rattle.calls.specs.Calls.{area-state}
 use Rattle.causes.proofs.Gives.{scope-numbered}
 use Rattle.causes.proofs.Rows.{among-row}
-
--- ---- a stored rule of a whole area is merged
-
-unmixed-zero : (k : Kind) (x : ℕ) → T (not (mixes k)) → constant-of k x ≡ pos 0
-unmixed-zero sum x n = absurd n
-unmixed-zero product x n = refl
-unmixed-zero count x n = absurd n
-unmixed-zero maximum x n = refl
-unmixed-zero minimum x n = refl
-
-whole-weighable : (k : Kind) (written : ℕ) (e : Entry) → WeightWhole k written e → T (weighable k (e .weight))
-whole-weighable sum written e h = tt
-whole-weighable product written e h = h .low
-whole-weighable count written e h = tt
-whole-weighable maximum written e h = tt
-whole-weighable minimum written e h = tt
-
-once-distinct : (es : List Entry) → Once es → Distinct es
-once-distinct [] h = tt
-once-distinct (e ∷ es) h = (h .0, once-distinct es (h .1))
-
-whole-merged : (lim : Limits) (n : ℕ) (r : Rule) → RuleWhole lim n r → (T (not (mixes (r .kind))) → r .set .constant ≡ pos 0) → IsMerged r
-whole-merged lim n r h zero-constant =
-    let E = EntryWhole n (r .head) (r .kind) (r .written) in
-    let es = r .set .entries in
-    record {
-      unmixed = zero-constant;
-      weights = each-map E (λ e. T (weighable (r .kind) (e .weight))) es (λ e x. whole-weighable (r .kind) (r .written) e (x .weighs)) (h .entries);
-      literals = each-map E (λ e. 1 ≤ place e) es (λ e x. x .atom-low) (h .entries);
-      distinct = once-distinct es (h .once);
-      headless = each-map E (λ e. ¬ (place e ≡ r .head)) es (λ e x. x .other) (h .entries);
-    }
 
 -- ---- sentences by number
 
@@ -109,9 +77,6 @@ module _ (lim : Limits) (w : List ℕ) (c : Counters) (h : Whole lim w c) where
   literals : (l : ℤ) → Among l (trail (rows-of w)) → 1 ≤ atom l
   literals l a = let x = among-row w n l (length-of w) a in subst (λ y. 1 ≤ atom y) (x .2) (row-atom-low lim w c h (x .0) (x .1))
 
-  merged : (s : ℕ) → s < S → IsMerged (rule s)
-  merged s l = whole-merged lim n (rule s) (h .theory .each s l .rule) (unmixed-zero (rule s .kind) (word w (record-at n s + 3)))
-
   numbered-sentence : (s : ℕ) → s < S → IsNumber (suc s) (map as-sentence (theory-of w)) (as-sentence (rule s))
   numbered-sentence s l =
       subst (λ r. IsNumber (suc s) (map as-sentence (theory-of w)) (as-sentence r)) (rules-numbered w n S s (rule s) l)
@@ -131,7 +96,7 @@ module _ (lim : Limits) (w : List ℕ) (c : Counters) (h : Whole lim w c) where
       subst (ExplainsConflict (map as-sentence (theory-of w)) (rows-of w) (suc s)) (x .1)
       (conflict-listed (map as-sentence (theory-of w)) js (rows-of w) agreed literals (suc s) (as-sentence (rule s)) (numbered-sentence s l)
       (subst (λ sc. BlindOutside sc (as-sentence (rule s))) (sym (scope-numbered w s l)) (stored-blind (rule s)))
-      (subst (Says (as-sentence (rule s)) t (scope (rule s))) said (says-stored (rule s) (merged s l) (h .theory .each s l .rule .head-low) t agreed)))
+      (subst (Says (as-sentence (rule s)) t (scope (rule s))) said (says-stored (rule s) (merged lim w c h s l) (h .theory .each s l .rule .head-low) t agreed)))
 
   -- and of the written sentences, where the stored theory is their merge
   pub explain-conflict-written : (ss : List Sentence) → theory-of w ≡ rules-of ss → (k room : ℕ) (ls : List ℤ)

@@ -5,26 +5,26 @@ use mathlib.Core.Path.{_≡_, refl, sym, ap, ap₂, _∙_, subst}
 use mathlib.Core.List.{List}
 use Prim.Native.Nat.{ℕ, suc, _-_, _<_}
 use native.Mathlib.Omega.{arith}
-use lib.ListN.{length, take, drop}
-use lib.Seq.{take-append-seam}
+use lib.ListN.{length, take}
 use lib.IntN.{ℤ}
 use Rattle.types.specs.Limits.{base}
 use Rattle.types.specs.declared.Counters as t
 use Rattle.numbers.specs.Words.{unword}
 use Rattle.meaning.specs.Meaning.{Sentence, Each}
 use Rattle.book.specs.Rows.{Row, trail}
-use Rattle.book.specs.Table.{Call, explain, explain-conflict, origin, Answer, listed, Paper, paper, list-after, Judged, State, result, Outcome, effect, reply}
+use Rattle.book.specs.Table.{Call, explain, explain-conflict, origin, Answer, listed, paper, list-after, Judged, State, result, effect, reply}
 use Rattle.book.specs.Book.{Counters, JudgesAll, WellFormed, Book, fresh, book-state, answers, played}
 use Rattle.book.specs.Means.{Bounded, Explains, ExplainsConflict, OriginList}
 use Rattle.book.proofs.Tests.{reply-is}
 use Rattle.book.proofs.Judged.{all-judged, all-scoped, all-blind}
-use Rattle.book.proofs.Sound.{Scoped, Sound}
+use Rattle.book.specs.Sound.{Scoped, Sound}
 use Rattle.book.proofs.Reports.{explain-means, explain-conflict-means, origin-means}
 use Rattle.book.proofs.Same.{answers-same, played-same}
 use Rattle.area.specs.Layout.{atoms-of, level-of, rows-of, record-at, least-at, greatest-at}
 use Rattle.calls.specs.declared.Listed.{Listed}
 use Rattle.calls.specs.Calls.{counted, listed-paper, area-state, Lists}
 use Rattle.calls.proofs.Acting.{answered-whole}
+use Rattle.calls.proofs.Effects.{listed-here, taken}
 use Rattle.search.proofs.Moves.{rows-count}
 use Rattle.reports.proofs.Replies.{bounds-stored}
 use Rattle.reports.proofs.Meaning.{bounds-mean}
@@ -34,7 +34,6 @@ use Rattle.load.proofs.Base.{base-fits}
 use Rattle.dalelead.specs.Public.{ListsExplanation, ListsConflict, ListsOrigin}
 use Rattle.history.specs.History.{Event, asked-in, HandedBack, Claim, History}
 use Rattle.history.proofs.Sentences.{loaded-well-formed, sentences-are}
-use Rattle.history.proofs.Replies.{reply-effect}
 use Rattle.history.proofs.Stands.{computed, book-of, Stands, whole-fits, state-is}
 use Rattle.history.proofs.Steps.{Followed, followed}
 
@@ -65,17 +64,10 @@ module _ (n : ℕ) (ss : List Sentence) (well : Each (WellFormed n) ss) (w : Lis
   -- a list that is handed back is the book's answer, and stands in front: what holds of the book's answer holds of it
   module _ (x : Call) (old new : List ℤ) (r : Listed) (a : Lists base w (counted c) x old new (listed-paper r)) (z : r .code ≡ 0)
       (f : effect q x .answer ≡ listed (result q x)) where
-    listed-here : reply q x .answer ≡ listed (result q x)
-    listed-here = ap {A = Outcome} (λ o. o .answer) (reply-effect q x (ap {A = Paper} (λ p. p .code) (sym (a .answer .told (s .whole))) ∙ z)) ∙ f
-
-    taken : take (r .value) new ≡ result q x
-    taken =
-        let v : r .value ≡ length (result q x) = ap {A = Paper} (λ p. p .value) (a .answer .told (s .whole)) ∙ ap {A = Answer} (λ y. paper y .value) listed-here in
-        let l : new ≡ list-after (listed (result q x)) old = a .written (s .whole) ∙ ap {A = Answer} (λ y. list-after y old) listed-here in
-        ap₂ {A = ℕ} {B = List ℤ} take v l ∙ take-append-seam (result q x) (drop (length (result q x)) old)
-
     reported : (P : List ℤ → Type 0) → ((ls : List ℤ) → reply book-q x .answer ≡ listed ls → P ls) → P (take (r .value) new)
-    reported P means = subst P (sym taken) (means (result q x) (ap {A = State} (λ y. reply y x .answer) (sym book-state-is) ∙ listed-here))
+    reported P means =
+        subst P (sym (taken base w (counted c) (s .whole) x old new r a z f))
+        (means (result q x) (ap {A = State} (λ y. reply y x .answer) (sym book-state-is) ∙ listed-here base w (counted c) (s .whole) x old new r a z f))
 
   explained-right : (l : ℤ) (old new : List ℤ) (r : Listed) → ListsExplanation w c l old new r → r .code ≡ 0 → Explains ss (rows-of w) l (take (r .value) new)
   explained-right l old new r a z =

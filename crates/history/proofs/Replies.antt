@@ -2,14 +2,12 @@
 -- where the area is broken; and nothing changed where the call keeps the area.
 use mathlib.Core.Path.{_≡_, refl, ap, _∙_}
 use mathlib.Core.Bool.{Bool, true, false, cond, _||_}
-use mathlib.Core.List.{List, [], _∷_}
+use mathlib.Core.List.{List, []}
 use Prim.Native.Nat.{ℕ, zero, suc, _-_}
-use native.Mathlib.Omega.{arith}
 use lib.ListN.{length}
 use lib.Dec.{T, T-not, eqb→eq}
-use Rattle.meaning.specs.Meaning.{Each}
 use Rattle.book.specs.Rows.{Row, up-to}
-use Rattle.book.specs.Table.{Call, give, open-level, take-back, propagate, search, bounds, explain, explain-conflict, origin, list-trail, refused, done, paper, list-after, State, propagated, Refusal, refusal, refusals, Outcome, unchanged, ended, effect, decided, reply}
+use Rattle.book.specs.Table.{Call, give, open-level, take-back, propagate, search, bounds, explain, explain-conflict, origin, list-trail, refused, done, list-after, State, propagated, refusals, Outcome, unchanged, ended, effect, decided, reply}
 use Rattle.book.proofs.Tests.{reply-is}
 use Rattle.calls.specs.Calls.{is-refusal, idle, keeps}
 use Rattle.propagate.proofs.Ending.{not-refused}
@@ -34,38 +32,6 @@ module _ (q : State) where
   pub nine : (x : Call) → q .broken ≡ true → reply q x ≡ unchanged q (refused 9 0)
   unfolding reply
   nine x e = ap {A = Bool} (λ b. cond b (unchanged q (refused 9 0)) (decided q (refusals q x) (effect q x))) e
-
-  -- ---- the code 0
-
-  abbrev Coded : Refusal → Type 0
-  Coded r = ¬ (r .code ≡ 0)
-
-  coded : (x : Call) → Each Coded (refusals q x)
-  coded (give l) = ((λ e. omega arith), ((λ e. omega arith), tt))
-  coded open-level = ((λ e. omega arith), tt)
-  coded (take-back k) = ((λ e. omega arith), tt)
-  coded propagate = tt
-  coded (search ls) = ((λ e. omega arith), tt)
-  coded (bounds k) = ((λ e. omega arith), tt)
-  coded (explain l room) = ((λ e. omega arith), ((λ e. omega arith), ((λ e. omega arith), ((λ e. omega arith), tt))))
-  coded (explain-conflict k room) = ((λ e. omega arith), ((λ e. omega arith), ((λ e. omega arith), tt)))
-  coded (origin l room) = ((λ e. omega arith), ((λ e. omega arith), ((λ e. omega arith), tt)))
-  coded (list-trail room) = ((λ e. omega arith), tt)
-
-  abbrev by : Refusal → List Refusal → Outcome → Bool → Outcome
-  by r rs o b = cond b (unchanged q (refused (r .code) (r .value))) (decided q rs o)
-
-  decided-effect : (rs : List Refusal) (o : Outcome) → Each Coded rs → paper (decided q rs o .answer) .code ≡ 0 → decided q rs o ≡ o
-  decided-effect [] o h e = refl
-  decided-effect (r ∷ rs) o h e = go (r .applies) (decided-effect rs o (h .1)) e
-    where
-      go : (b : Bool) → (paper (decided q rs o .answer) .code ≡ 0 → decided q rs o ≡ o) → paper (by r rs o b .answer) .code ≡ 0 → by r rs o b ≡ o
-      go true ih e = absurd (h .0 e)
-      go false ih e = ih e
-
-  pub reply-effect : (x : Call) → paper (reply q x .answer) .code ≡ 0 → reply q x ≡ effect q x
-  unfolding reply
-  reply-effect x e = decided-effect (refusal 9 (q .broken) ∷ refusals q x) (effect q x) ((λ z. omega arith), coded x) e
 
   -- ---- nothing changed
 

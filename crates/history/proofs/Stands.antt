@@ -15,12 +15,12 @@ use Rattle.meaning.specs.Merge.{Rule}
 use Rattle.book.specs.Rows.{Row}
 use Rattle.book.specs.Table.{Judged, State}
 use Rattle.book.specs.Book.{judged-all, rules-of, Book, Counters, need, fits, book-state}
-use Rattle.book.proofs.Sound.{Sound}
-use Rattle.book.proofs.Keeps.{SoundBook}
+use Rattle.book.specs.Sound.{Sound, SoundBook}
 use Rattle.area.specs.Layout.{atoms-of, level-of, rows-of, theory-of, need-of}
 use Rattle.area.specs.Whole.{Whole}
 use Rattle.whole.proofs.Gives.{need-stays}
-use Rattle.whole.proofs.Need.{ReadAlike, cut-whole, cut-alike, grown-whole, grown-alike}
+use Rattle.whole.specs.Same.{ReadAlike}
+use Rattle.whole.proofs.Need.{cut-whole, cut-alike, grown-whole, grown-alike}
 use Rattle.calls.specs.Calls.{area-state}
 use Rattle.search.proofs.Moves.{rows-count}
 use Rattle.history.proofs.Sentences.{need-is}

@@ -17,7 +17,8 @@ use Rattle.book.specs.Table.{refused, paper, list-after, State, Outcome, unchan
 use Rattle.book.specs.Book.{WellFormed, Book, Asked, need, fits, book-state, turn, after, answers, played}
 use Rattle.book.proofs.Judged.{all-judged, all-scoped}
 use Rattle.book.proofs.Sound.{up-to-all}
-use Rattle.book.proofs.Keeps.{SoundBook, turn-sound}
+use Rattle.book.specs.Sound.{SoundBook}
+use Rattle.book.proofs.Keeps.{turn-sound}
 use Rattle.area.specs.Layout.{level-of, rows-of}
 use Rattle.area.specs.Whole.{Whole}
 use Rattle.calls.specs.Calls.{counted, area-state}

@@ -28,7 +28,7 @@ use Rattle.columns.specs.Refusals.{some, both-signs, all-refusals, first-refusa
 use Rattle.load.specs.Load.{Loaded, Loads}
 use Rattle.load.specs.Examples.{given}
 use Rattle.history.specs.History.{Calls, none, gives, opens, takes-back, propagates, reads-bounds, lists-explanation, lists-conflict, lists-origin, lists-trail}
-use Rattle.history_examples.specs.Examples.{counters-at, sevens, load-done, FromLoad, events, m11-loaded, m11-one, m11-two, m11-opened, m11-derived, m11-against, m11-again, m11-turns, ring-columns, m12-loaded, m12-given, m12-derived, m12-turns}
+use Rattle.history_examples.specs.Examples.{counters-at, sevens, spare, load-done, FromLoad, events, m11-loaded, m11-one, m11-two, m11-opened, m11-derived, m11-against, m11-again, m11-turns, ring-columns, m12-loaded, m12-given, m12-derived, m12-turns}
 use Rattle.history_examples.proofs.Decide.{decided, miscounted, cut-short}
 use Rattle.history_examples.proofs.Steps.{answered, moving, keeping, refusing, listing, refusing-list, then, then-cut}
 
@@ -47,10 +47,6 @@ accepting : {w₀ w : List ℕ} {n : ℕ} {cs : Columns} (size : ℕ) → length
     → Loads base w₀ w n cs load-done
 accepting {n = n} {cs = cs} size e a l =
     record { answer-is = subst (λ k. load-done ≡ load-answer base k n cs) (sym e) a; refused = λ r. absurd (r refl); accepted = λ _. l }
-
--- the word past the need, behind k others
-abbrev spare : List ℕ
-spare = 7 ∷ []
 
 module _ (front : List ℕ) (k : ℕ) (e : length front ≡ k) where
   with-spare : length (front ++ spare) ≡ k + 1

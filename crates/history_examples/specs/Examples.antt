@@ -63,13 +63,17 @@ sevens (suc k) = pos 7 ∷ sevens k
 abbrev pub spans : (least greatest : ℕ) → Paper
 spans v w = record { code = 0; value = 0; sentence = 0; gone = 0; least-mark = 0; least = pos v; greatest-mark = 0; greatest = pos w }
 
+-- the word past the need, in both examples
+abbrev pub spare : List ℕ
+spare = 7 ∷ []
+
 -- ---- M11, and M5's conflict on its way: 3 atoms, on 25 words, one more than the need
 
 -- the sentence's words: head, tag, bound, constant; least, greatest, entries before it, counts; two entries; and the word past the need
 abbrev pub m4-words : (tag least greatest : ℕ) → List ℕ
 m4-words tag least greatest =
     3 ∷ tag ∷ 4611686018427387905 ∷ 4611686018427387904 ∷ least ∷ greatest ∷ 0 ∷ 131074
-    ∷ 4611686018427387905 ∷ 2 ∷ 4611686018427387906 ∷ 4 ∷ 7 ∷ []
+    ∷ 4611686018427387905 ∷ 2 ∷ 4611686018427387906 ∷ 4 ∷ spare
 
 -- before them word 0 and two unused, the values, the trail's literals and its marks. What load leaves
 abbrev pub m11-loaded : List ℕ
@@ -140,7 +144,7 @@ abbrev pub ring-words : (tag least-of-1 least-of-2 : ℕ) → List ℕ
 ring-words tag v w =
     1 ∷ tag ∷ 4611686018427387905 ∷ 4611686018427387904 ∷ v ∷ 4611686018427387905 ∷ 0 ∷ 65537
     ∷ 2 ∷ tag ∷ 4611686018427387905 ∷ 4611686018427387904 ∷ w ∷ 4611686018427387905 ∷ 1 ∷ 65537
-    ∷ 4611686018427387905 ∷ 4 ∷ 4611686018427387905 ∷ 2 ∷ 7 ∷ []
+    ∷ 4611686018427387905 ∷ 4 ∷ 4611686018427387905 ∷ 2 ∷ spare
 
 abbrev pub m12-loaded : List ℕ
 m12-loaded = 131074 ∷ 0 ∷ 0 ∷ 0 ∷ 0 ∷ 0 ∷ 0 ∷ 0 ∷ ring-words 16 4611686018427387904 4611686018427387904

@@ -18,7 +18,8 @@ use Rattle.columns.proofs.Clauses.{or-left, or-right}
 use Rattle.columns.proofs.Shapes.{limits-passed, counts-add-up, misshapen-is}
 use Rattle.columns.proofs.Answers.{answer-1}
 use Rattle.load.specs.Load.{Loads}
-use Rattle.lent.specs.Lent.{weights-in, literals-in, CopyOf}
+use Rattle.lent.specs.Copy.{CopyOf}
+use Rattle.lent.specs.Lent.{weights-in, literals-in}
 use Rattle.lent.specs.declared.Weighted.{Weighted}
 use Rattle.lent.specs.declared.Copied.{Copied}
 

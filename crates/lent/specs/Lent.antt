@@ -1,10 +1,8 @@
 -- What the entries that lend structs promise, in the words of the public calls: a list of records is its two columns, and the counters
 -- after a call are read in the caller's hands.
-use mathlib.Core.Path.{_≡_}
 use mathlib.Core.List.{List, [], _∷_}
-use Prim.Native.Nat.{ℕ, _≤_}
+use Prim.Native.Nat.{ℕ}
 use lib.IntN.{ℤ}
-use lib.ListN.{length, take}
 use Rattle.types.specs.Limits.{base}
 use Rattle.types.specs.declared.Counters.{Counters}
 use Rattle.book.specs.Table.{propagate}
@@ -13,7 +11,6 @@ use Rattle.calls.specs.declared.Done.{Done}
 use Rattle.propagate.specs.Propagate.{plain}
 use Rattle.search.specs.declared.Searched.{Searched}
 use Rattle.lent.specs.declared.Weighted.{Weighted}
-use Rattle.lent.specs.declared.Copied.{Copied}
 use Rattle.lent.specs.declared.Outcome.{Outcome}
 use Rattle.lent.specs.declared.SearchOutcome.{SearchOutcome}
 
@@ -26,12 +23,6 @@ weights-in (r ∷ rs) = r .weight ∷ weights-in rs
 unfoldable pub literals-in : List Weighted → List ℤ
 literals-in [] = []
 literals-in (r ∷ rs) = r .literal ∷ literals-in rs
-
--- the records are counted, and where they fit their columns are the fronts of the two arrays
-pub record CopyOf (rs : List Weighted) (r : Copied) : Type 0 where
-  pub count-is : r .count ≡ length rs
-  pub weights-are : length rs ≤ base .entries → take (length rs) (r .weights) ≡ weights-in rs
-  pub literals-are : length rs ≤ base .entries → take (length rs) (r .literals) ≡ literals-in rs
 
 -- ---- the answer of a by-value call, from what is handed back and the counters after the call
 

@@ -14,7 +14,8 @@ ghost use Rattle.types.specs.Limits.{base};
 ghost use Rattle.columns.specs.Columns.{columns};
 ghost use Rattle.load.specs.Load.{Loads};
 ghost use Rattle.dalelead.specs.Public.{Gives, Opens, TakesBack, SearchesFor};
-ghost use Rattle.lent.specs.Lent.{weights-in, literals-in, CopyOf, done, searched, PropagatesTo};
+ghost use Rattle.lent.specs.Copy.{CopyOf};
+ghost use Rattle.lent.specs.Lent.{weights-in, literals-in, done, searched, PropagatesTo};
 
 // ---- load, from a list of records
 

@@ -11,12 +11,11 @@ use Rattle.numbers.specs.Words.{literal-of}
 use Rattle.meaning.specs.Meaning.{atom}
 use Rattle.meaning.specs.Merge.{Rule, scope}
 use Rattle.book.specs.Table.{Outcome}
-use Rattle.book.specs.Book.{Counters}
+use Rattle.book.specs.Book.{Counters, counters}
 use Rattle.area.specs.Layout.{word, atoms-of, sentences-of, literal-at, mark-at, row-at, rows-from, rows-of, record-at}
 use Rattle.area.specs.Whole.{Whole, Reasoned}
 use Rattle.calls.specs.Calls.{Moved}
 use Rattle.step.specs.Step.{Standing}
-use Rattle.whole.specs.Parts.{counters}
 use Rattle.whole.proofs.Join.{parts}
 use Rattle.whole.proofs.Frame.{same-record}
 use Rattle.whole.proofs.Theories.{SameTheory, theory-behind, rule-stays}

@@ -19,7 +19,8 @@ use Rattle.book.specs.Book.{JudgesAll, WellFormed}
 use Rattle.book.specs.Means.{IsNumber}
 use Rattle.book.proofs.Judged.{all-judged, all-scoped}
 use Rattle.book.proofs.Number.{judges-length, judges-numbered, numbered-exists, numbered-each}
-use Rattle.book.proofs.Sound.{Scoped, Sound, consistent}
+use Rattle.book.specs.Sound.{Scoped, Sound}
+use Rattle.book.proofs.Sound.{consistent}
 use Rattle.book.proofs.Sound as sound
 use Rattle.book.proofs.Few.{few-rows}
 use Rattle.book.proofs.Run.{clash-means, growth}

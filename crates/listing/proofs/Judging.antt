@@ -17,7 +17,7 @@ use Rattle.book.specs.Book.{JudgesAll, WellFormed}
 use Rattle.book.proofs.Judged.{all-judged, all-scoped}
 use Rattle.book.proofs.Number.{judges-length}
 use Rattle.book.proofs.Same.{turn-same}
-use Rattle.book.proofs.Sound.{Scoped, Sound}
+use Rattle.book.specs.Sound.{Scoped, Sound}
 use Rattle.columns.specs.Columns.{sentences-in}
 use Rattle.columns.specs.declared.Answer as load
 use Rattle.columns.specs.Refusals.{load-answer}

@@ -12,7 +12,7 @@ use Rattle.meaning.specs.Meaning.{Sentence, Each}
 use Rattle.book.specs.Rows.{Row}
 use Rattle.book.specs.Table.{Judged, Call, give, State, Outcome, effect, reply, called}
 use Rattle.book.specs.Book.{JudgesAll, Book, Asked, need, book-state}
-use Rattle.book.proofs.Sound.{Scoped, Sound}
+use Rattle.book.specs.Sound.{Scoped, Sound}
 use Rattle.book.proofs.Keeps.{turn-sound}
 use Rattle.book.proofs.Tests.{reply-is}
 use Rattle.listing.specs.Output.{heads-given}

@@ -22,7 +22,7 @@ use Rattle.theory_check.specs.Theory.{PlacesOk, SentenceOk}
 use Rattle.theory_check.proofs.Places.{none-before, one-more}
 use Rattle.columns.specs.Columns.{Columns, written-from, sentences-in}
 use Rattle.columns.specs.Refusals.{need}
-use Rattle.columns.proofs.Accepted.{Accepted}
+use Rattle.columns.specs.Decides.{Accepted}
 use Rattle.whole.specs.Parts.{counters, Matching}
 use Rattle.refresh.specs.Refresh.{Refreshable, Untouched, AsBefore, Renewed, Refreshed}
 use Rattle.whole.proofs.Join.{joined-at}

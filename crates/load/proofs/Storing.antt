@@ -23,7 +23,7 @@ use Rattle.columns.specs.Indexed.{nth, Passes}
 use Rattle.columns.proofs.Paired.{paired-length}
 use Rattle.columns.proofs.Shapes.{Inside, inside}
 use Rattle.columns.proofs.Walk.{part-is}
-use Rattle.columns.proofs.Accepted.{Accepted}
+use Rattle.columns.specs.Decides.{Accepted}
 use Rattle.load.specs.Stored.{Storable, Held, Stored, Cleared, AllStored}
 use Rattle.load.proofs.Frames.{held-kept}
 

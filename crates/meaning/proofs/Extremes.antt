@@ -12,7 +12,7 @@ use Rattle.numbers.specs.Extended.{Extended, leE, Direction, down, up, further}
 use Rattle.meaning.specs.Meaning.{Assignment, atom, Entry, place, Kind, Sentence, value, Agrees, Consistent, Furthest, Each, weighable}
 use Rattle.meaning.specs.Merge.{Merged, Rule, rule-with}
 use Rattle.meaning.specs.Computed.{combine, gather, starting, given, Standing, free, fixed, standing, reach, extreme-of, extreme}
-use Rattle.meaning.proofs.Represents.{Off, Distinct, Represents}
+use Rattle.meaning.specs.Represents.{Off, Distinct, Represents}
 use Rattle.meaning.proofs.Orders.{Proper, combine-proper, given-proper, starting-proper, further-refl, further-antisym, further-combine, furthest-first, furthest-second, furthest-of}
 use Rattle.meaning.proofs.Gather.{each-map, gather-same, contribution, merged-gather}
 use Rattle.meaning.proofs.Trails.{fixed-agrees, on-fixed, agrees-from, with-atom, with-other, standing-other}

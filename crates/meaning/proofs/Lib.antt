@@ -1,5 +1,4 @@
 pub mod Checks
-pub mod Represents
 pub mod Orders
 pub mod Trails
 pub mod Gather
@@ -13,6 +12,7 @@ pub mod MergingTurned
 pub mod MergingValue
 pub mod MergingDistinct
 pub mod Merging
+pub mod Restored
 pub mod Stored
 pub mod Tests
 pub mod Examples

@@ -10,7 +10,7 @@ use Rattle.numbers.specs.Extended.{at}
 use Rattle.numbers.proofs.Integers.{product-mono}
 use Rattle.meaning.specs.Meaning.{Assignment, Entry, chosen, Kind, sum, product, count, maximum, minimum, total, aggregate, members, Sentence, value, Each, weighable, mixes, Admissible}
 use Rattle.meaning.specs.Merge.{freed-all, turned-all, constant, collect, nonzero, merge, raised, merged-value}
-use Rattle.meaning.proofs.Represents.{Represents}
+use Rattle.meaning.specs.Represents.{Represents}
 use Rattle.meaning.proofs.Gather.{raised-zero}
 use Rattle.meaning.proofs.Members.{each, collect-each, merge-each}
 use Rattle.meaning.proofs.MergingDistinct.{merge-distinct}

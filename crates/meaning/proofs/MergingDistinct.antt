@@ -7,7 +7,7 @@ use lib.IntN.{ℤ, pos, negsuc}
 use lib.Dec.{T}
 use Rattle.meaning.specs.Meaning.{atom, Entry, place, Kind, sum, product, count, maximum, minimum, same, members, Each, mixes, OneSigned}
 use Rattle.meaning.specs.Merge.{turned-by, turned-all, put, collect, nonzero, merge}
-use Rattle.meaning.proofs.Represents.{Distinct}
+use Rattle.meaning.specs.Represents.{Distinct}
 use Rattle.meaning.proofs.Gather.{each-map}
 use Rattle.meaning.proofs.Members.{eq→same, join, each, each-both, put-each, nonzero-each}
 

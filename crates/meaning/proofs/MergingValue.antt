@@ -7,7 +7,7 @@ use lib.IntN.{ℤ, pos}
 use lib.Signed.{leZ}
 use lib.Dec.{T}
 use Rattle.numbers.specs.Extended.{Extended, below, at, above}
-use Rattle.meaning.specs.Meaning.{Assignment, holds, Entry, chosen, Kind, sum, product, count, maximum, minimum, aggregate, empty, multiplied, same}
+use Rattle.meaning.specs.Meaning.{Assignment, holds, Entry, chosen, Kind, sum, product, count, maximum, minimum, aggregate, empty, multiplied, same, weights-of}
 use Rattle.meaning.specs.Merge.{joined, put, collect, merge}
 use Rattle.meaning.specs.Computed.{combine, gather}
 use Rattle.meaning.proofs.Orders.{combine-assoc, combine-empty, empty-combine}
@@ -67,25 +67,21 @@ collect-keeps-value k es σ =
 
 -- ---- over all: the product of the weights
 
-abbrev pub weights : List Entry → List ℤ
-weights [] = []
-weights (e ∷ es) = e .weight ∷ weights es
-
-multiplied-gather : (v : Extended) (es : List Entry) → gather product (given-by product (λ l. true)) v es ≡ combine product v (at (multiplied (weights es)))
+multiplied-gather : (v : Extended) (es : List Entry) → gather product (given-by product (λ l. true)) v es ≡ combine product v (at (multiplied (weights-of es)))
 unfolding gather
 multiplied-gather v [] = sym (combine-empty product v)
 multiplied-gather v (e ∷ es) =
-    multiplied-gather (combine product v (at (e .weight))) es ∙ combine-assoc product v (at (e .weight)) (at (multiplied (weights es)))
+    multiplied-gather (combine product v (at (e .weight))) es ∙ combine-assoc product v (at (e .weight)) (at (multiplied (weights-of es)))
 
-weights-gather : (es : List Entry) → at (multiplied (weights es)) ≡ gather product (given-by product (λ l. true)) (empty product) es
-weights-gather es = sym (multiplied-gather (empty product) es ∙ empty-combine product (at (multiplied (weights es))))
+weights-gather : (es : List Entry) → at (multiplied (weights-of es)) ≡ gather product (given-by product (λ l. true)) (empty product) es
+weights-gather es = sym (multiplied-gather (empty product) es ∙ empty-combine product (at (multiplied (weights-of es))))
 
 integer : Extended → ℤ
 integer below = pos 0
 integer (at z) = z
 integer above = pos 0
 
-pub merge-product : (es : List Entry) → multiplied (weights (merge product es .entries)) ≡ multiplied (weights es)
+pub merge-product : (es : List Entry) → multiplied (weights-of (merge product es .entries)) ≡ multiplied (weights-of es)
 unfolding gather integer
 merge-product es =
     ap integer (weights-gather (collect product [] es) ∙ collect-value product (λ l. true) (empty product) [] es ∙ sym (weights-gather es))

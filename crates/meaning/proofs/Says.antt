@@ -13,7 +13,7 @@ use Rattle.meaning.specs.Meaning.{atom, Entry, place, Sentence, Consiste
 use Rattle.meaning.specs.Merge.{Merged, rule-with, places, scope}
 use Rattle.meaning.specs.Computed.{refuted, due, first-due, says}
 use Rattle.meaning.proofs.Members.{places-each}
-use Rattle.meaning.proofs.Represents.{Off, Represents}
+use Rattle.meaning.specs.Represents.{Off, Represents}
 use Rattle.meaning.proofs.Orders.{T-true, T-false}
 use Rattle.meaning.proofs.Trails.{opposite-atom, two-literals, literal-unique}
 use Rattle.meaning.proofs.Verdicts.{refuted-conflict, satisfiable-test, due-test, outside-unforced}

@@ -9,16 +9,17 @@ use lib.Signed.{leZ}
 use lib.Dec.{T}
 use Rattle.numbers.specs.Extended.{Extended, below, at, above, Direction}
 use Rattle.numbers.proofs.Integers.{ints, sum-parts, neg-parts}
-use Rattle.meaning.specs.Meaning.{Assignment, Entry, place, chosen, Kind, sum, product, count, maximum, minimum, aggregate, empty, members, Side, lower, upper, comparison, Sentence, value, Satisfied, Consistent, Conflict, Says, Each, weighable, mixes}
+use Rattle.meaning.specs.Meaning.{Assignment, Entry, chosen, Kind, sum, product, count, maximum, minimum, aggregate, empty, members, Side, lower, upper, comparison, Sentence, value, Satisfied, Consistent, Conflict, Says, weighable}
 use Rattle.meaning.specs.Merge.{Merged, turned-all, freed-all, put, collect, nonzero, raised, merged-value, Rule, rule-with, rule-of, scope, merged-kind, as-sentence}
 use Rattle.meaning.specs.Computed.{combine, gather, starting, Standing, free, fixed, standing, extreme-of, extreme, towards, refuted-at, refuted, first-due, says}
 use Rattle.meaning.specs.Examples.{minus, _on_, sentence, m3}
-use Rattle.meaning.proofs.Represents.{Off, Distinct, Represents}
+use Rattle.meaning.specs.Represents.{Represents, IsMerged, merged-comparison}
 use Rattle.meaning.proofs.Orders.{is-true, is-false, combine-comm, empty-combine}
 use Rattle.meaning.proofs.Gather.{each-map, gather-last, raised-zero, raised-starting}
 use Rattle.meaning.proofs.Verdicts.{conflict-test}
 use Rattle.meaning.proofs.Says.{says-right}
 use Rattle.meaning.proofs.Merging.{merge-keeps-value}
+use Rattle.meaning.proofs.Restored.{restored}
 
 -- ---- examples, which compute
 
@@ -78,10 +79,6 @@ value-merged : (r : Rule) (σ : Assignment) → value (as-sentence r) σ ≡ agg
 unfolding value
 value-merged r σ = ap (λ es. aggregate (merged-kind (r .kind)) (chosen σ es)) (members-merged (r .kind) (r .set .entries))
 
--- the comparison with the merged value, constant and all
-abbrev pub merged-comparison : Rule → Assignment → Bool
-merged-comparison r σ = comparison (r .side) (r .bound) (merged-value (r .kind) (r .set) σ)
-
 same-comparison : (r : Rule) (σ : Assignment) → comparison (r .side) (as-sentence r .bound) (value (as-sentence r) σ) ≡ merged-comparison r σ
 unfolding merged-value
 same-comparison r σ =
@@ -103,14 +100,6 @@ satisfied-written s σ =
 
 -- ---- the tests
 
--- what a merge leaves: only sums and counts have a constant, a product's weights are at least 1, each atom stands once, and not the head's
-pub record IsMerged (r : Rule) : Type 0 where
-  pub unmixed : T (not (mixes (r .kind))) → r .set .constant ≡ pos 0
-  pub weights : Each (λ e. T (weighable (r .kind) (e .weight))) (r .set .entries)
-  pub literals : Each (λ e. 1 ≤ place e) (r .set .entries)
-  pub distinct : Distinct (r .set .entries)
-  pub headless : Off (r .head) (r .set .entries)
-
 -- the entries without the constant
 abbrev bare : Rule → Merged
 bare r = record { constant = pos 0; entries = r .set .entries }
@@ -119,7 +108,7 @@ bare r = record { constant = pos 0; entries = r .set .entries }
 abbrev lowered : Rule → Rule
 lowered r = rule-with (as-sentence r) (bare r)
 
-weighable-merged : (k : Kind) (w : ℤ) → T (weighable k w) → T (weighable (merged-kind k) w)
+pub weighable-merged : (k : Kind) (w : ℤ) → T (weighable k w) → T (weighable (merged-kind k) w)
 weighable-merged sum w h = h
 weighable-merged product w h = h
 weighable-merged count w h = h
@@ -188,8 +177,16 @@ module _ (r : Rule) (m : IsMerged r) where
   first-due-lowered t [] = refl
   first-due-lowered t (a ∷ rest) = rw (refuted-lowered (negℤ (pos a) ∷ t), refuted-lowered (negℤ (negℤ (pos a)) ∷ t), first-due-lowered t rest)
 
+  says-lowered : (t : List ℤ) → says r t ≡ says (lowered r) t
+  unfolding says
+  says-lowered t = rw (refuted-lowered t, first-due-lowered t (scope r))
+
   -- and the rule says first what its sentence does
   pub says-stored : 1 ≤ r .head → (t : List ℤ) → Consistent t → Says (as-sentence r) t (scope r) (says r t)
-  unfolding says
   says-stored low t c =
-      rw (refuted-lowered t, first-due-lowered t (scope r)) (says-right (as-sentence r) (bare r) t (bare-represents r m) low c)
+      subst (Says (as-sentence r) t (scope r)) (sym (says-lowered t)) (says-right (as-sentence r) (bare r) t (bare-represents r m) low c)
+
+  -- ---- the rule's sentence, stored: its merge leaves the entries as they are
+
+  pub says-restored : (t : List ℤ) → says (rule-of (as-sentence r)) t ≡ says r t
+  says-restored t = ap (λ s. says (rule-with (as-sentence r) s) t) (restored r m) ∙ sym (says-lowered t)

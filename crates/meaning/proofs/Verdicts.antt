@@ -11,7 +11,7 @@ use Rattle.numbers.specs.Extended.{Extended}
 use Rattle.meaning.specs.Meaning.{Assignment, atom, truth, holds, Sentence, value, Agrees, Consistent, Satisfiable, Conflict, Forced, On, Open}
 use Rattle.meaning.specs.Merge.{Merged, Rule, rule-with}
 use Rattle.meaning.specs.Computed.{Standing, free, fixed, standing, extreme, towards, compared, refuted-at, refuted, is-free, due}
-use Rattle.meaning.proofs.Represents.{Off, Represents}
+use Rattle.meaning.specs.Represents.{Off, Represents}
 use Rattle.meaning.proofs.Orders.{towards-keeps}
 use Rattle.meaning.proofs.Trails.{opposite-atom, opposite-holds, is-free-of, standing-same, standing-other, fixed-agrees, off-free, free-off, with-atom, with-same, agrees-with, put-on}
 use Rattle.meaning.proofs.Extremes.{extreme-bounds, extreme-attained, value-outside, extreme-outside}

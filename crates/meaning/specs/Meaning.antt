@@ -37,6 +37,10 @@ pub record Entry : Type 0 where
 abbrev pub place : Entry → ℕ
 place e = atom (e .literal)
 
+abbrev pub weights-of : List Entry → List ℤ
+weights-of [] = []
+weights-of (e ∷ es) = e .weight ∷ weights-of es
+
 -- the weights whose literals are true
 abbrev pub chosen : Assignment → List Entry → List ℤ
 chosen σ [] = []

@@ -16,7 +16,7 @@ use Rattle.meaning.specs.Merge.{turned-by, freed-by, turned, joined, put, colle
 use Rattle.meaning.proofs.Gather.{each-map}
 use Rattle.meaning.proofs.Members.{join, each, each-both, collect-each}
 use Rattle.meaning.proofs.Verdicts.{and-first, and-second}
-use Rattle.meaning.proofs.MergingValue.{weights, merge-product}
+use Rattle.meaning.proofs.MergingValue.{merge-product}
 use Rattle.kinds.specs.Kinds.{least-weight, greatest-weight, weight-fits}
 use Rattle.kinds.proofs.Weights.{fits-weighable}
 use Rattle.area.specs.Whole.{weights-of}
@@ -124,10 +124,6 @@ each-factor (x ∷ xs) h =
           (each-factor xs (h .1)),
     )
 
-weights-same : (es : List Entry) → weights es ≡ weights-of es
-weights-same [] = refl
-weights-same (e ∷ es) = ap (λ ws. e .weight ∷ ws) (weights-same es)
-
 pub multiplied-append : (es fs : List Entry) → multiplied (weights-of (es ++ fs)) ≡ multiplied (weights-of es) *ℤ multiplied (weights-of fs)
 multiplied-append [] fs = sym (*ℤ-comm (pos 1) (multiplied (weights-of fs)) ∙ times-one (multiplied (weights-of fs)))
 multiplied-append (e ∷ es) fs = ap (λ m. e .weight *ℤ m) (multiplied-append es fs) ∙ sym (*ℤ-assoc (e .weight) (multiplied (weights-of es)) (multiplied (weights-of fs)))
@@ -144,7 +140,7 @@ product-joinable es e h g t =
     let w = fits-weighable product (e .weight) g in
     let m = multiplied (weights-of xs) in
     let all : m *ℤ e .weight ≡ multiplied (weights-of (es ++ (e ∷ []))) =
-    ap (λ v. v *ℤ e .weight) (ap multiplied (sym (weights-same xs)) ∙ merge-product es ∙ ap multiplied (weights-same es))
+    ap (λ v. v *ℤ e .weight) (merge-product es)
     ∙ ap (λ v. multiplied (weights-of es) *ℤ v) (sym (times-one (e .weight))) ∙ sym (multiplied-append es (e ∷ [])) in
     each-map (λ x. One x × T (leZ (x .weight) m)) (λ x. Joinable product (x .weight) (e .weight)) xs
     (λ x p. (

@@ -16,7 +16,8 @@ use Rattle.opb_bytes.specs.declared.Next.{Next}
 use Rattle.opb_bytes.specs.declared.Next.the-variants as next
 use Rattle.opb_bytes.specs.Grammar.{bytes-limit, long-fault, v-fault, c-fault, variable-fault, step, cut-off, ends, begins}
 use Rattle.opb_bytes.specs.States.{fixed}
-use Rattle.opb_text.specs.Text.{Constraint, Reading, taken, refused, term-of, constraint-of, turn, closing, go, reading, rows-from, all-entries}
+use Rattle.opb_text.specs.Text.{Constraint, Reading, taken, refused, term-of, constraint-of, turn, closing, go, reading}
+use Rattle.opb_text.specs.Limits.{Limits}
 use Rattle.opb_text.proofs.Totals.{sentences-of, entries-of, all-rows, all-row-entries}
 use Rattle.opb_text.proofs.Keeps.{About, about, outside, Tracks, Held, Grows, Kept, step-kept, begins-held}
 
@@ -111,12 +112,6 @@ unfolding reading
 reading-leads text = long-leads text (ltb bytes-limit (length text))
 
 -- ---- in document 01's terms
-
-pub record Limits (v : ℕ) (cs : List Constraint) : Type 0 where
-  pub some-variable : 1 ≤ v
-  pub atoms : v + length cs ≤ 1024
-  pub sentences : length (rows-from (suc v) cs) ≤ 256
-  pub entries : length (all-entries (rows-from (suc v) cs)) ≤ 4096
 
 pub limits : (text : List ℕ) (v : ℕ) (cs : List Constraint) → reading text ≡ taken v cs → Limits v cs
 limits text v cs q =

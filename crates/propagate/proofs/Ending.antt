@@ -11,15 +11,15 @@ use lib.Dec.{T}
 use Rattle.types.specs.declared.Limits.{Limits}
 use Rattle.book.specs.Rows.{Row, row, trail}
 use Rattle.book.specs.Table.{propagate, Paper, paper, Judged, Speech, nothing, objects, derives, speech, Stop, run, propagated, Outcome, ended, reply}
-use Rattle.book.specs.Book.{judged-all}
+use Rattle.book.specs.Book.{judged-all, counters}
 use Rattle.book.proofs.Keeps.{next}
 use Rattle.area.specs.Layout.{atoms-of, length-of, level-of, rows-of, theory-of}
 use Rattle.area.specs.Whole.{Whole}
 use Rattle.calls.specs.Calls.{area-state, is-refusal, Moved, Acts}
 use Rattle.trail_check.proofs.Rows.{rows-length}
-use Rattle.whole.specs.Parts.{counters}
 use Rattle.calls.proofs.Acting.{acts-moved}
-use Rattle.propagate.specs.Propagate.{plain, Stopped}
+use Rattle.propagate.specs.Stopped.{Stopped}
+use Rattle.propagate.specs.Propagate.{plain}
 
 -- the table's run only puts rows on
 pub run-longer : (js : List Judged) (level steps : ℕ) (rs : List Row) → length rs ≤ length (run js level steps rs .rows)

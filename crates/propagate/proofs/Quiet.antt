@@ -16,9 +16,9 @@ use Rattle.book.specs.Book.{judged-all}
 use Rattle.area.specs.Layout.{word, atoms-of, sentences-of, rows-from, rows-of, record-at, rule-at, rules-from, theory-of, entries-before, need-of}
 use Rattle.area.specs.Whole.{Whole}
 use Rattle.trail_check.specs.Trail.{HeaderOk}
-use Rattle.whole.specs.Parts.{counters, Matching, SentenceRight, AllRight}
+use Rattle.whole.specs.Parts.{counters, Matching, SentenceRight, AllRight, Parts}
 use Rattle.whole.specs.Same.{SameRecord}
-use Rattle.whole.proofs.Join.{Parts, parts, joined-at}
+use Rattle.whole.proofs.Join.{parts, joined-at}
 use Rattle.whole.proofs.Frame.{drop-same}
 use Rattle.whole.proofs.Theories.{SameTheory, theory-behind, rule-stays, sentence-stays, rules-stay, before-stays, places-stay}
 use Rattle.whole.proofs.Trails.{header-stays, rows-stay, trail-stays, reason-stays}

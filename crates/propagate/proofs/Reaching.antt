@@ -19,7 +19,7 @@ use Rattle.trail.specs.Trail.{Advanced}
 use Rattle.find.specs.declared.Found.{Found}
 use Rattle.find.specs.declared.Found.the-variants.{Nothing, Conflict, Forced}
 use Rattle.find.specs.Find.{spoken-of, Searchable, FoundIs}
-use Rattle.propagate.specs.Propagate.{Stopped}
+use Rattle.propagate.specs.Stopped.{Stopped}
 use Rattle.propagate.specs.Settle.{Settleable, Settled}
 use Rattle.propagate.proofs.Needs.{sentences-same, need-same}
 use Rattle.propagate.proofs.Quiet.{settled-whole}

@@ -1,2 +1,3 @@
 pub mod Propagate
 pub mod Settle
+pub mod Stopped

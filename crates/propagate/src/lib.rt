@@ -9,7 +9,8 @@ ghost use Rattle.book.specs.Table.{propagate};
 ghost use Rattle.calls.specs.Calls.{counted, Acts};
 ghost use Rattle.find.specs.Find.{Searchable};
 ghost use Rattle.trail.specs.Ready.{Usable, Ready};
-ghost use Rattle.propagate.specs.Propagate.{propagated-paper, counters-of, Named, Stopped};
+ghost use Rattle.propagate.specs.Stopped.{Stopped};
+ghost use Rattle.propagate.specs.Propagate.{propagated-paper, counters-of, Named};
 ghost use Rattle.propagate.specs.Settle.{Settleable, Settled};
 
 // The area is not whole; still, with the number of literals put on; or a conflict, with its sentence and that number. Each with the

@@ -18,8 +18,8 @@ use Rattle.area.specs.Layout.{word, atoms-of, sentences-of, level-of, rows-from
 use Rattle.area.specs.Whole.{Whole, Reasoned}
 use Rattle.trail_check.specs.Trail.{HeaderOk, TrailOk}
 use Rattle.trail_check.proofs.Shown.{shows}
-use Rattle.whole.specs.Parts.{counters, Matching, SentenceRight, AllRight}
-use Rattle.whole.proofs.Join.{Parts, parts, joined-at}
+use Rattle.whole.specs.Parts.{counters, Matching, SentenceRight, AllRight, Parts}
+use Rattle.whole.proofs.Join.{parts, joined-at}
 use Rattle.whole.proofs.Frame.{drop-same, same-record, record-through}
 use Rattle.whole.proofs.Theories.{SameTheory, theory-behind, rule-stays, sentence-stays, rules-stay, before-stays, places-stay}
 use Rattle.whole.proofs.Trails.{header-stays, rows-stay, trail-stays, reason-stays}

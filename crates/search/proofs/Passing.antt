@@ -13,7 +13,7 @@ use borrow.Author.Tests.{le-leb, lt-leb}
 use Rattle.meaning.specs.Meaning.{atom}
 use Rattle.book.specs.Rows.{any}
 use Rattle.book.specs.Table.{State, on-trail, End, end, turning, tried, trying}
-use Rattle.book.proofs.Sound.{Within}
+use Rattle.book.specs.Sound.{Within}
 use Rattle.book.proofs.Keeps.{atom-told}
 use Rattle.search.specs.Search.{AllKnown}
 use Rattle.search.specs.Turn.{nth}

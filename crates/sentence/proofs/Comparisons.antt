@@ -16,7 +16,7 @@ use Rattle.meaning.specs.Meaning.{Side, comparison}
 use Rattle.meaning.specs.Meaning as m
 use Rattle.meaning.specs.Merge.{Rule}
 use Rattle.meaning.specs.Computed.{starting, gather, extreme-of, extreme, towards, compared}
-use Rattle.meaning.proofs.Represents.{Off}
+use Rattle.meaning.specs.Represents.{Off}
 use Rattle.area.specs.Layout.{constant-of, entries-of}
 use Rattle.area.specs.Whole.{Once}
 use Rattle.sentence.specs.declared.Kind.{Kind}

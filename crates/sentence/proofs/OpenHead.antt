@@ -12,7 +12,7 @@ use Rattle.meaning.specs.Meaning.{atom, truth, Entry, place}
 use Rattle.meaning.specs.Meaning as m
 use Rattle.meaning.specs.Merge.{Rule, places, scope}
 use Rattle.meaning.specs.Computed.{free, standing, extreme, towards, compared, refuted-at, refuted, is-free, due, first-due, says}
-use Rattle.meaning.proofs.Represents.{Off}
+use Rattle.meaning.specs.Represents.{Off}
 use Rattle.meaning.proofs.Trails.{opposite-atom, opposite-truth}
 use Rattle.meaning.proofs.Verdicts.{refuted-head, refuted-headless}
 use Rattle.area.specs.Layout.{entries-of}

@@ -13,7 +13,7 @@ use Rattle.numbers.specs.Words.{literal-of}
 use Rattle.numbers.proofs.Words.{parity, literal-even, literal-odd, opposite-even, opposite-odd}
 use Rattle.meaning.specs.Meaning.{atom, truth}
 use Rattle.meaning.specs.Computed.{fixed, standing}
-use Rattle.meaning.proofs.Represents.{Off}
+use Rattle.meaning.specs.Represents.{Off}
 use Rattle.meaning.proofs.Trails.{standing-same, standing-other}
 use Rattle.area.specs.Layout.{entries-of}
 use Rattle.area.specs.Whole.{Once}

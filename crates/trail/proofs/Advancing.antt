@@ -15,8 +15,8 @@ use Rattle.meaning.specs.Computed.{standing}
 use Rattle.book.specs.Rows.{Row, row, trail}
 use Rattle.area.specs.Layout.{word, atoms-of, sentences-of, level-of, row-at, rows-from, rows-of, record-at}
 use Rattle.area.specs.Whole.{Reasoned}
-use Rattle.whole.specs.Parts.{counters}
-use Rattle.whole.proofs.Join.{Parts, parts}
+use Rattle.whole.specs.Parts.{counters, Parts}
+use Rattle.whole.proofs.Join.{parts}
 use Rattle.trail_check.proofs.Rows.{atom-of}
 use Rattle.refresh.specs.Refresh.{Refreshable, Refreshed}
 use Rattle.whole.proofs.Frame.{same-record}

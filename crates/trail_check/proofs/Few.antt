@@ -6,7 +6,7 @@ use native.Mathlib.Omega.{arith}
 use lib.ListN.{length}
 use Rattle.meaning.specs.Meaning.{atom, Each}
 use Rattle.book.specs.Rows.{Row}
-use Rattle.book.proofs.Sound.{Within}
+use Rattle.book.specs.Sound.{Within}
 use Rattle.book.proofs.Few as list
 use Rattle.area.specs.Layout.{rows-from}
 use Rattle.area.specs.Whole.{AtomsOnce}

@@ -17,7 +17,8 @@ use Rattle.area.specs.Whole.{Whole}
 use Rattle.trail_check.proofs.Rows.{rows-length}
 use Rattle.trail_check.proofs.Same.{mark-same}
 use Rattle.theory_check.proofs.Rules.{rules-length, rules-numbered}
-use Rattle.whole.proofs.Join.{parts, Held}
+use Rattle.whole.specs.Parts.{Held}
+use Rattle.whole.proofs.Join.{parts}
 use Rattle.whole.proofs.DeterminedWords.{before-same, words-same}
 
 -- ---- the sentences by number

@@ -12,7 +12,8 @@ use Rattle.meaning.specs.Merge.{Rule, places, scope}
 use Rattle.meaning.proofs.Gather.{each-map}
 use Rattle.meaning.proofs.Members.{places-each}
 use Rattle.book.specs.Rows.{Row}
-use Rattle.book.proofs.Number.{In, in-each}
+use Rattle.book.specs.Sound.{In}
+use Rattle.book.proofs.Number.{in-each}
 use Rattle.book.proofs.Few.{Distinct}
 use Rattle.area.specs.Layout.{row-at, place-at, record-at, rule-at}
 use Rattle.area.specs.Whole.{EntryWhole, Once, RuleWhole, Reasoned}

@@ -18,7 +18,7 @@ use Rattle.trail_check.proofs.Rows.{atom-of, atom-low}
 use Rattle.trail_check.proofs.Same.{rows-same, same-trail}
 use Rattle.theory_check.proofs.Places.{placed}
 use Rattle.theory_check.proofs.Same.{SameWords, same-sentence}
-use Rattle.whole.proofs.Join.{Held}
+use Rattle.whole.specs.Parts.{Held}
 use Rattle.whole.proofs.DeterminedPlaces.{place-same}
 
 pub before-same : (w w′ : List ℕ) (n n′ k : ℕ) → ((s : ℕ) → s < k → written-at w (record-at n s) ≡ written-at w′ (record-at n′ s))

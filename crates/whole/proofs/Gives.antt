@@ -6,30 +6,28 @@ use mathlib.Core.List.{List, [], _∷_, _++_}
 use Prim.Native.Nat.{ℕ, zero, suc, _+_, _*_, _/_, _%_, _<_, _≤_}
 use native.Mathlib.Omega.{arith}
 use lib.ListN.{length, getD, List·getD-append}
-use lib.IntN.{ℤ}
 use Rattle.types.specs.declared.Limits.{Limits}
 use Rattle.types.specs.Limits.{Fitting}
 use Rattle.numbers.specs.Extended.{up, down}
 use Rattle.numbers.specs.Words.{unword}
 use Rattle.meaning.specs.Meaning.{atom, Consistent}
 use Rattle.meaning.specs.Merge.{Rule, scope}
-use Rattle.meaning.specs.Computed.{extreme}
 use Rattle.book.specs.Rows.{trail, numbered}
 use Rattle.book.specs.Table.{Judged}
 use Rattle.book.specs.Book.{Counters, judged, judged-all}
-use Rattle.book.proofs.Number.{In}
-use Rattle.area.specs.Layout.{word, atoms-of, sentences-of, length-of, literal-at, row-at, place-at, rows-of, record-at, pending-at, least-at, greatest-at, rule-at, theory-of, entries-before, need-of}
+use Rattle.area.specs.Layout.{word, atoms-of, sentences-of, length-of, literal-at, row-at, place-at, rows-of, record-at, pending-at, rule-at, theory-of, entries-before, need-of}
 use Rattle.area.specs.Whole.{Whole}
 use Rattle.sentence.specs.Sentence.{Ready}
 use Rattle.trail_check.proofs.Rows.{atom-of, atom-low}
 use Rattle.trail_check.proofs.Shown.{once-consistent}
 use Rattle.theory_check.proofs.Rules.{rules-length, rules-numbered}
 use Rattle.theory_check.proofs.Places.{placed}
+use Rattle.whole.specs.Gives.{ReasonInside, BoundsAre, Silent}
 use Rattle.whole.proofs.Join.{parts}
 use Rattle.whole.proofs.DeterminedPlaces.{place-in}
 use Rattle.whole.proofs.DeterminedWords.{before-same}
 use Rattle.whole.proofs.GivesExtremes.{extreme-back}
-use Rattle.whole.proofs.GivesSilence.{Silent, silence}
+use Rattle.whole.proofs.GivesSilence.{silence}
 
 -- ---- the judgements by number, of any words
 
@@ -55,16 +53,6 @@ numbered-rule w d s l =
     judged-number d r s (theory-of w) (omega (arith, rules-length w n S 0 S)) ∙ ap {A = Rule} judged (rules-numbered w n S s r l)
 
 -- ---- what wholeness gives
-
--- a sentence of the area that has the row's atom
-pub record ReasonInside (w : List ℕ) (n S i s : ℕ) : Type 0 where
-  pub sentence : s < S
-  pub inside : In (atom (row-at w n i .literal)) (scope (rule-at w n S (record-at n s)))
-
--- the stored bounds of the sentence at b are the extremes over the trail
-pub record BoundsAre (w : List ℕ) (n S b : ℕ) (t : List ℤ) : Type 0 where
-  pub least : unword (least-at w b) ≡ extreme down (rule-at w n S b) t
-  pub greatest : unword (greatest-at w b) ≡ extreme up (rule-at w n S b) t
 
 module _ (lim : Limits) (w : List ℕ) (c : Counters) (h : Whole lim w c) where
   abbrev n : ℕ

@@ -11,15 +11,12 @@ use lib.IntN.{ℤ, pos, negℤ}
 use Rattle.meaning.specs.Meaning.{atom, Entry, place, silent, conflict, forced, Each}
 use Rattle.meaning.specs.Merge.{Rule, places, scope}
 use Rattle.meaning.specs.Computed.{standing, refuted, is-free, due, first-due, says}
-use Rattle.meaning.proofs.Represents.{Off}
+use Rattle.meaning.specs.Represents.{Off}
 use Rattle.meaning.proofs.Trails.{opposite-atom, two-literals}
 use Rattle.meaning.proofs.Verdicts.{refuted-outside}
-use Rattle.book.proofs.Number.{In, in-each}
-
-pub record Silent (r : Rule) (t : List ℤ) : Type 0 where
-  pub said : says r t ≡ silent
-  pub no-conflict : refuted r t ≡ false
-  pub none-due : (l : ℤ) → due r t l ≡ false
+use Rattle.book.specs.Sound.{In}
+use Rattle.book.proofs.Number.{in-each}
+use Rattle.whole.specs.Gives.{Silent}
 
 -- ---- inside the scope
 

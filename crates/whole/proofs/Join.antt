@@ -9,11 +9,10 @@ use Rattle.meaning.specs.Meaning.{silent}
 use Rattle.meaning.specs.Computed.{says}
 use Rattle.book.specs.Rows.{trail}
 use Rattle.area.specs.Layout.{atoms-of, sentences-of, length-of, level-of, value-at, value-word, rows-from, record-at, rule-at}
-use Rattle.area.specs.Whole.{Whole, AtomsOnce, Rising, Reasoned, BoundsMatch}
-use Rattle.trail_check.specs.Trail.{HeaderOk, TrailOk}
+use Rattle.area.specs.Whole.{Whole, AtomsOnce, Rising, BoundsMatch}
+use Rattle.trail_check.specs.Trail.{HeaderOk}
 use Rattle.trail_check.proofs.Few.{few-places}
-use Rattle.theory_check.specs.Theory.{PlacesOk}
-use Rattle.whole.specs.Parts.{counters, AllRight}
+use Rattle.whole.specs.Parts.{counters, Parts, Held}
 
 module _ (lim : Limits) (w : List ℕ) (len level : ℕ) where
   abbrev n : ℕ
@@ -22,17 +21,9 @@ module _ (lim : Limits) (w : List ℕ) (len level : ℕ) where
   abbrev S : ℕ
   S = sentences-of w
 
-  -- the parts, as the check decides them
-  pub record Parts : Type 0 where
-    pub header : HeaderOk lim w len level
-    pub trail-ok : TrailOk w n len level
-    pub places : PlacesOk lim w n S
-    pub sentences : AllRight lim w n S len
-    pub reasons : (i : ℕ) → i < len → Reasoned w n S i
-
   -- ---- the parts make it whole
 
-  pub joined : Parts → Whole lim w (counters len level)
+  pub joined : Parts lim w len level → Whole lim w (counters len level)
   joined p =
       let h = p .header in
       let t = p .trail-ok in
@@ -70,7 +61,7 @@ module _ (lim : Limits) (w : List ℕ) (len level : ℕ) where
 
   -- ---- and wholeness gives the parts
 
-  pub parts : Whole lim w (counters len level) → Parts
+  pub parts : Whole lim w (counters len level) → Parts lim w len level
   parts h =
       let same : length-of w ≡ len = h .length-is in
       let once : AtomsOnce n (rows-from w n len) = subst (λ k. AtomsOnce n (rows-from w n k)) same (h .trail-right .atoms) in
@@ -111,12 +102,6 @@ module _ (lim : Limits) (w : List ℕ) (len level : ℕ) where
       }
 
 -- ---- the parts behind word 0, at any numbers of atoms and sentences
-
-pub record Held (lim : Limits) (w : List ℕ) (n S len level : ℕ) : Type 0 where
-  pub trail-ok : TrailOk w n len level
-  pub places : PlacesOk lim w n S
-  pub sentences : AllRight lim w n S len
-  pub reasons : (i : ℕ) → i < len → Reasoned w n S i
 
 pub joined-at : (lim : Limits) (w : List ℕ) (len level n S : ℕ) → atoms-of w ≡ n → sentences-of w ≡ S → HeaderOk lim w len level → Held lim w n S len level
     → Whole lim w (counters len level)

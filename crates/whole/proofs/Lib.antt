@@ -11,3 +11,4 @@ pub mod Frame
 pub mod Theories
 pub mod Trails
 pub mod Need
+pub mod Stored

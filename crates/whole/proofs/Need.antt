@@ -17,18 +17,12 @@ use Rattle.book.specs.Book.{Counters}
 use Rattle.area.specs.Layout.{word, atoms-of, sentences-of, length-of, level-of, rows-from, rows-of, record-at, rules-from, theory-of, need-of}
 use Rattle.area.specs.Whole.{Whole}
 use Rattle.theory_check.proofs.Places.{placed, room-below}
-use Rattle.whole.specs.Parts.{Matching, SentenceRight, AllRight}
-use Rattle.whole.proofs.Join.{Parts, parts, joined-at}
+use Rattle.whole.specs.Parts.{Matching, SentenceRight, AllRight, Parts}
+use Rattle.whole.specs.Same.{ReadAlike}
+use Rattle.whole.proofs.Join.{parts, joined-at}
 use Rattle.whole.proofs.Frame.{same-record, entries-inside}
 use Rattle.whole.proofs.Theories.{SameTheory, rule-stays, sentence-stays, rules-stay, places-stay}
 use Rattle.whole.proofs.Trails.{header-stays, rows-stay, trail-stays, reason-stays}
-
--- what is read off two lists is the same
-pub record ReadAlike (w w′ : List ℕ) : Type 0 where
-  pub atoms : atoms-of w′ ≡ atoms-of w
-  pub level : level-of w′ ≡ level-of w
-  pub rows : rows-of w′ ≡ rows-of w
-  pub theory : theory-of w′ ≡ theory-of w
 
 module _ (lim : Limits) (w w′ : List ℕ) (c : Counters) (h : Whole lim w c) (room : need-of w ≤ length w′)
     (same : (i : ℕ) → i < need-of w → word w′ i ≡ word w i) where

@@ -14,7 +14,7 @@ use Rattle.decide.proofs.Below.{sum-none}
 use Rattle.columns.specs.Columns.{Columns, columns, all-written, written-at}
 use Rattle.columns.specs.Refusals.{all-refusals, first-refusal}
 use Rattle.columns.specs.Indexed.{nth, sentence-code}
-use Rattle.columns.proofs.Codes.{answer}
+use Rattle.columns.specs.Decides.{answer}
 use Rattle.columns.proofs.Shapes.{shaped, Inside, inside}
 use Rattle.columns.proofs.Walk.{answer-from, from-first, from-here, from-later, from-none, parts-alike, same-sentence}
 use Rattle.columns.proofs.first_refused.Statement.{statement}

@@ -52,7 +52,8 @@ use denote.Triple.Spec.{Meets, tripleOf}
 use denote.Triple.Table.{entered, cited}
 use denote.Triple.Walked.{says, Stays, stay-none-slice, walkOf, AllGo, goes-none-slice, Walks, ends-at, walked, walk-meets}
 use denote.Exit.{yes}
-use Rattle.lent.specs.Lent.{weights-in, literals-in, CopyOf}
+use Rattle.lent.specs.Copy.{CopyOf}
+use Rattle.lent.specs.Lent.{weights-in, literals-in}
 use Rattle.lent.specs.declared.Weighted.{Weighted}
 use Rattle.lent.specs.declared.Copied.{Copied}
 use Rattle.lent.proofs.Records.{blank-record, Front, weights-grow, literals-grow, all-copied}

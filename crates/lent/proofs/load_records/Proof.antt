@@ -43,7 +43,8 @@ use Rattle.types.specs.declared.Atom.{Atom}
 use Rattle.columns.specs.Columns.{columns}
 use Rattle.columns.specs.declared.Answer.{Answer}
 use Rattle.load.specs.Load.{Loads}
-use Rattle.lent.specs.Lent.{weights-in, literals-in, CopyOf}
+use Rattle.lent.specs.Copy.{CopyOf}
+use Rattle.lent.specs.Lent.{weights-in, literals-in}
 use Rattle.lent.specs.declared.Weighted.{Weighted}
 use Rattle.lent.specs.declared.Copied.{Copied}
 use Rattle.types.proofs.Atom as P

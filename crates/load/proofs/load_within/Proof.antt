@@ -4,7 +4,8 @@ use native.Mathlib.Omega.{arith}
 use lib.ListN.{length, getD-replicate}
 use Rattle.columns.specs.Columns.{Columns, columns}
 use Rattle.columns.specs.declared.Answer.{Answer}
-use Rattle.columns.proofs.Accepted.{Accepted, accepted}
+use Rattle.columns.specs.Decides.{Accepted}
+use Rattle.columns.proofs.Accepted.{accepted}
 use Rattle.load.proofs.Ends.{refreshable, loaded}
 use borrow.Author.Needs.{needs}
 use Rattle.load.proofs.load_within.Statement.{statement}

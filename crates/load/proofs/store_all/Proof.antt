@@ -11,7 +11,8 @@ use Rattle.columns.specs.Columns.{Columns, Written, columns}
 use Rattle.columns.specs.Columns as column
 use Rattle.columns.specs.Indexed.{nth}
 use Rattle.columns.proofs.Shapes.{Inside}
-use Rattle.columns.proofs.Accepted.{Accepted, accepted}
+use Rattle.columns.specs.Decides.{Accepted}
+use Rattle.columns.proofs.Accepted.{accepted}
 use Rattle.load.specs.Stored.{Stored}
 use Rattle.load.proofs.Storing.{lent-is, Small, small, here, storable, Running, running-none, running-more, all-stored}
 use Rattle.load.proofs.store_all.Statement.{statement}

@@ -5,7 +5,7 @@ use borrow.Author.Needs.{needs}
 use Rattle.types.specs.declared.Limits.{Limits}
 use Rattle.calls.specs.Calls.{counted}
 use Rattle.trail.specs.Ready.{Usable}
-use Rattle.propagate.specs.Propagate.{Stopped}
+use Rattle.propagate.specs.Stopped.{Stopped}
 use Rattle.propagate.proofs.Ending.{longer, acts-still, acts-conflict}
 use Rattle.propagate.proofs.propagate_whole.Statement.{statement}
 use Rattle.propagate.proofs.propagate_whole.Tie as tie

@@ -10,7 +10,7 @@ use Rattle.types.specs.declared.Limits.{Limits}
 use Rattle.meaning.specs.Meaning.{atom}
 use Rattle.book.specs.Table.{trying}
 use Rattle.book.specs.Book.{Counters}
-use Rattle.book.proofs.Sound.{Within}
+use Rattle.book.specs.Sound.{Within}
 use Rattle.area.specs.Whole.{Whole}
 use Rattle.area.specs.Layout.{atoms-of, value-at}
 use Rattle.calls.specs.Calls.{area-state}
