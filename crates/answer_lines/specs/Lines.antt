@@ -3,12 +3,11 @@
 use mathlib.Core.Bool.{cond}
 use mathlib.Core.List.{List, [], _∷_, _++_}
 use Prim.Native.Nat.{ℕ, zero, suc, _+_, _*_, _/_}
-use lib.ListN.{length, take}
-use lib.IntN.{ℤ}
+use lib.ListN.{length, take, getD}
+use lib.IntN.{ℤ, pos}
 use lib.Dec.{eqb}
 use Rattle.numbers.specs.Text.{bytes, decimal, signed-decimal}
 use Rattle.book.specs.Table.{Paper}
-use Rattle.columns.specs.Indexed.{nth}
 use Rattle.columns.specs.declared.Answer as load
 use Rattle.propagate.specs.declared.Propagated.{Propagated}
 use Rattle.propagate.specs.declared.Propagated.the-variants.{Broken, Still, Conflict}
@@ -69,7 +68,7 @@ row-line literal level reason =
 -- the first k
 unfoldable pub row-lines : List ℤ → ℕ → List ℕ
 row-lines list zero = []
-row-lines list (suc k) = row-lines list k ++ row-line (nth list (3 * k)) (nth list (3 * k + 1)) (nth list (3 * k + 2))
+row-lines list (suc k) = row-lines list k ++ row-line (getD list (3 * k) (pos 0)) (getD list (3 * k + 1) (pos 0)) (getD list (3 * k + 2) (pos 0))
 
 abbrev pub trail-lines : Paper → List ℤ → List ℕ
 trail-lines p list =

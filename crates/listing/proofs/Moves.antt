@@ -16,6 +16,8 @@ use Rattle.book.specs.Rows.{Row}
 use Rattle.book.specs.Table.{Call, give, propagate, refused, done, Paper, paper, State, Outcome, unchanged, no-atom, on-trail, ended, effect, propagated, reply, following, called}
 use Rattle.book.specs.Book.{Counters}
 use Rattle.area.specs.Whole.{Whole}
+use Rattle.trail.specs.Ready.{Usable}
+use Rattle.load.proofs.Base.{base-fits}
 use Rattle.calls.specs.Calls.{area-state, counted, is-refusal, keeps, Moved, Acts}
 use Rattle.propagate.specs.declared.Propagated.{Propagated}
 use Rattle.propagate.specs.Propagate.{propagated-paper, counters-of, Named}
@@ -91,21 +93,20 @@ propagate-line {w} r h a d = propagated-told r (reply (area-state base w) propag
 
 -- ---- the listing
 
-at-base :
-    {lim : Limits} {w w′ : List ℕ} {c c′ : Counters} {p : Paper} → lim ≡ base → Acts lim w w′ c c′ propagate p → Acts base w w′ c c′ propagate p
-at-base {lim} {w} {w′} {c} {c′} {p} e a = subst (λ (l : Limits). Acts l w w′ c c′ propagate p) e a
+module _ {w w′ : List ℕ} {c : Counters} (r : Propagated) (h : Whole base w c)
+    (a : ((lim : Limits) → Usable lim w c → Acts lim w w′ c (counted (counters-of r)) propagate (propagated-paper r)) × Named r) where
+  acts : Acts base w w′ c (counted (counters-of r)) propagate (propagated-paper r)
+  acts = a .0 base (record { fitting = base-fits; whole = h })
 
-module _ {lim : Limits} {w w′ : List ℕ} {c : Counters} (r : Propagated) (e : lim ≡ base) (h : Whole base w c)
-    (a : Acts lim w w′ c (counted (counters-of r)) propagate (propagated-paper r) × Named r) where
   pub still-whole : (d : t.Counters) → d ≡ counters-of r → Whole base w′ (counted d)
-  still-whole d s = subst (λ (x : t.Counters). Whole base w′ (counted x)) (sym s) (propagate-next h (at-base e (a .0)) .whole)
+  still-whole d s = subst (λ (x : t.Counters). Whole base w′ (counted x)) (sym s) (propagate-next h acts .whole)
 
   pub listing-put :
       {old page new : List ℕ} {at behind s : ℕ} → Writes old at page behind (propagated-line r) →
       Writes page behind new s (state-lines (area-state base w′)) → Writes old at new s (listing (area-state base w))
   listing-put {old} {page} {new} {at} {behind} {s} p q =
-      then (subst (Writes old at page behind) (propagate-line r h (at-base e (a .0)) (a .1)) p)
-      (subst (λ (x : State). Writes page behind new s (state-lines x)) (propagate-next h (at-base e (a .0)) .state) q)
+      then (subst (Writes old at page behind) (propagate-line r h acts (a .1)) p)
+      (subst (λ (x : State). Writes page behind new s (state-lines x)) (propagate-next h acts .state) q)
 
 -- ---- one head more
 

@@ -17,9 +17,8 @@ use Rattle.opb_text.proofs.Limits.{limits, numbered}
 use Rattle.opb_text.proofs.Columns.{same-rows}
 use Rattle.pages.specs.Page.{Holds, Writes}
 use Rattle.pages.proofs.Laws.{starts}
-use Rattle.listing.specs.Steps.{Prints}
 use Rattle.answer_lines.specs.Lines.{refused-line}
-use Rattle.listing.specs.Output.{area-words, judged-sentences, answered, printed, output}
+use Rattle.listing.specs.Output.{area-words, judged-sentences, answered, printed, output, Prints}
 
 abbrev pub fronts : ℕ → ℕ → Columns → Columns
 fronts n e c =

@@ -1,6 +1,7 @@
 -- Document 01's section 'The OPB program', from the bytes of standard input to the bytes of standard output. Reading the text is `reading`,
 -- load's answer `load-answer`, and every other answer is the table's (`reply`), for sentences judged by the computed tests.
 use mathlib.Core.Bool.{false, cond}
+use mathlib.Core.Path.{_≡_}
 use mathlib.Core.List.{List, [], _∷_, _++_}
 use Prim.Native.Nat.{ℕ, zero, suc, _+_, _*_}
 use lib.ListN.{length}
@@ -17,6 +18,7 @@ use Rattle.columns.specs.Refusals.{load-answer}
 use Rattle.answer_lines.specs.Lines.{refused-line, stop-line}
 use Rattle.opb_text.specs.Text.{Reading, reading, rows-from, columns-of}
 use Rattle.opb_text.specs.Text as text
+use Rattle.pages.specs.Page.{Holds}
 
 -- ---- lines: `refused-line` for 'refusals, printed `refused N k`' and 'load's refusals print with their sentence'; `stop-line` for 'Line 1:
 -- `still` and the literals derived, or `conflict`, that count and the sentence'; and
@@ -83,3 +85,8 @@ output input = printed (reading input)
 -- no output is longer (`Fits: output-fits`): a row has at most 14 bytes, a bound 36, and the first line 18
 abbrev pub page-bytes : ℕ
 page-bytes = base .atoms * 14 + base .sentences * 36 + 18
+
+-- what the program does with a lent page: it holds the output, or is too short, and `r` is the output's length or past the page's end
+pub record Prints (input old new : List ℕ) (r : ℕ) : Type 0 where
+  pub size : length new ≡ length old
+  pub holds : Holds new r (output input)

@@ -10,8 +10,8 @@ use Rattle.area.specs.Whole.{Whole}
 use Rattle.calls.specs.Calls.{area-state, counted}
 use Rattle.columns.specs.Columns.{Columns, all-written}
 use Rattle.columns.specs.Refusals.{load-answer}
-use Rattle.pages.specs.Page.{Holds, Writes}
-use Rattle.listing.specs.Output.{heads-given, area-words, judged-sentences, answered, output}
+use Rattle.pages.specs.Page.{Writes}
+use Rattle.listing.specs.Output.{heads-given, area-words, judged-sentences, answered}
 
 abbrev pub WholeArea : List ℕ → Counters → Type 0
 WholeArea w c = Whole base w (counted c)
@@ -36,8 +36,3 @@ pub record HeadsGiven (w w′ : List ℕ) (v c : ℕ) (r : Counters) : Type 0 wh
 -- what is printed for the columns' sentences, on a page from its start
 abbrev pub Answers : List ℕ → List ℕ → ℕ → ℕ → ℕ → Columns → Type 0
 Answers old new r v c xs = Writes old 0 new r (answered v c (judged-sentences (all-written xs)) (load-answer base area-words (v + c) xs))
-
--- the promise of the program: the page holds the output, or is too short
-pub record Prints (input old new : List ℕ) (r : ℕ) : Type 0 where
-  pub size : length new ≡ length old
-  pub holds : Holds new r (output input)

@@ -1,5 +1,5 @@
 // The OPB program of document 01 on a lent page: a text is read and loaded, its heads are given in order at level 0, propagate is called,
-// and the answer, the trail and the bounds of each sentence are put on the page. The area is checked once, by propagate.
+// and the answer, the trail and the bounds of each sentence are put on the page. Load leaves the area whole, and no call after it checks the area again.
 use calls::Bounds;
 use types::Atom;
 use types::Counters;
@@ -14,8 +14,8 @@ ghost use Rattle.area.specs.Layout.{rows-from};
 ghost use Rattle.calls.specs.Calls.{area-state, bounds-paper};
 ghost use Rattle.columns.specs.Columns.{columns};
 ghost use Rattle.pages.specs.Page.{Writes};
-ghost use Rattle.listing.specs.Output.{row-line, bound-line, row-lines, bound-lines, state-lines, listing};
-ghost use Rattle.listing.specs.Steps.{WholeArea, HeadsAsked, HeadsGiven, Answers, Prints};
+ghost use Rattle.listing.specs.Output.{row-line, bound-line, row-lines, bound-lines, state-lines, listing, Prints};
+ghost use Rattle.listing.specs.Steps.{WholeArea, HeadsAsked, HeadsGiven, Answers};
 
 // ---- lines
 
@@ -86,7 +86,7 @@ fn put_listing(page: &mut [u8], at: usize, area: &mut [u64], counters: Counters)
     requires { ⌜ WholeArea (now area) counters ⌝ }
     ensures { λ r. ⌜ Writes (now (page .entry)) at (now (page .exit)) r (listing (area-state base (now (area .entry)))) ⌝ }
 {
-    let answer = propagate::propagate_within(area, Limits::base(), counters);
+    let answer = propagate::propagate_whole(area, counters);
     let after = propagate::counters_of(answer);
     let behind = answer_lines::put_propagated(page, at, answer);
     put_state(page, behind, area, after)
