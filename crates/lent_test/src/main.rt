@@ -1,8 +1,9 @@
 // Both forms that lend structs, run on document 01's example M4 (head 3, sum {(1,1),(2,2)} <= 1): loaded from a list of records, given and
 // propagated through counters in the caller's hands. A line for each call: its numbers, and the counters after it. Between them a literal
-// that is on the trail, and counters that are not the area's: both are refused, and the counters stay.
+// that is on the trail, and counters that are not the area's: both are refused, and the counters stay. Then loaded again and searched.
 use columns::Answer;
 use lent::Outcome;
+use lent::SearchOutcome;
 use lent::Weighted;
 use types::Atom;
 use types::Counters;
@@ -10,8 +11,8 @@ use types::Level;
 ghost use Rattle.types.specs.Limits.{base};
 ghost use Rattle.columns.specs.Columns.{columns};
 ghost use Rattle.load.specs.Load.{Loads};
-ghost use Rattle.dalelead.specs.Public.{Gives};
-ghost use Rattle.lent.specs.Lent.{weights-in, literals-in, PropagatesTo};
+ghost use Rattle.dalelead.specs.Public.{Gives, SearchesFor};
+ghost use Rattle.lent.specs.Lent.{weights-in, literals-in, searched, PropagatesTo};
 
 // Two records by value, lent as a list.
 fn load_two(
@@ -59,6 +60,24 @@ fn propagate_held(area: &mut [u64], counters: Counters) -> Held
     }
 }
 
+// What the search loop leaves.
+struct SearchHeld {
+    outcome: SearchOutcome,
+    counters: Counters,
+}
+
+// And to the search loop.
+fn search_held(area: &mut [u64], counters: Counters, literals: &[i64]) -> SearchHeld
+    ensures { λ r. ⌜ SearchesFor (now (area .entry)) (now (area .exit)) counters (now (literals .entry)) (searched (r .outcome) (r .counters)) ⌝ }
+{
+    let mut held = counters;
+    let outcome = lent::search_in(area, &mut held, literals);
+    SearchHeld {
+        outcome: outcome,
+        counters: held,
+    }
+}
+
 // ---- what is written
 
 fn number(x: u64) {
@@ -90,6 +109,20 @@ fn show_propagate(area: &mut [u64], counters: Counters) -> Counters {
     number(outcome.code);
     number(sentence.0);
     number(outcome.count);
+    let after = r.counters;
+    show_counters(after);
+    after
+}
+
+fn show_search(area: &mut [u64], counters: Counters, literals: &[i64]) -> Counters {
+    let r = search_held(area, counters, literals);
+    let outcome = r.outcome;
+    let sentence = outcome.sentence;
+    io::write_all(1, b"search");
+    number(outcome.code);
+    number(sentence.0);
+    number(outcome.count);
+    number(outcome.gone);
     let after = r.counters;
     show_counters(after);
     after
@@ -148,4 +181,11 @@ fn main() {
     };
     show_propagate(&mut area, other);
     show_propagate(&mut area, counters);
+    show_load(&mut area, one, two);
+    counters = Counters {
+        length: 0,
+        level: Level(0),
+    };
+    counters = show_search(&mut area, counters, &[3i64, 2, 4]);
+    show_search(&mut area, counters, &[3i64, 2, 1]);
 }
