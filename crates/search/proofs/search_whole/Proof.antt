@@ -151,9 +151,7 @@ returns-3 c = let s = c .before .before .before .before .before .before .before 
     subst (λ (r : Searched). Ends (s .args .lim) (s .args .area .now) (c .before .before .before .before .before .before .try-literal .last .0) (s .args .literals .now) r) (sym (c .unopposed2 .ensures)) (highest (c .before))
 
 add-i : tie.Need-add-i Inv-loop μ-loop
-add-i c = let b : Fits w64 (c .before .before .before .before .before .before .before .before .before .next-open .result * 8) = mul-try-literal (c .before .before .before .before .before .before .before) in
-    let f : Fits w64 (c .before .before .before .before .before .before .before .before .before .next-open .result + 1) = omega (arith, b .fits) in
-    f
+add-i c = let b : Fits w64 (c .before .before .before .before .before .before .before .before .before .next-open .result * 8) = mul-try-literal (c .before .before .before .before .before .before .before) in omega (arith, b .fits)
 
 loop-less : tie.Need-loop-less Inv-loop μ-loop
 loop-less c = omega (arith, inside (c .before .before .before .before .before .before .before .before), next (c .before .before .before .before .before .before .before .before .before) .later)
