@@ -1,5 +1,6 @@
 /* Crates on trucks: a depth-first search over the library. Every crate goes on one truck, and no truck carries more than it may.
- * All plans are printed, then why the last literal of the last plan was derived.
+ * First one call tries each crate on each truck in turn, as far as that goes. Then all plans are printed, and why the last literal of the
+ * last plan was derived.
  *
  *     rt staticlib dalelead_c
  *     gcc -I include -o plan examples/c/plan.c target/staticlib/libdalelead_c.a
@@ -24,7 +25,7 @@ static int64_t bounds[SENTENCES], weights[ENTRIES], literals[ENTRIES];
 static size_t sentences, entries;
 
 static uint64_t area[4 * ATOMS + 8 * SENTENCES + 2 * ENTRIES];
-static uint64_t next[3]; /* the counters, and the number of literals put on */
+static uint64_t next[4]; /* the counters, the number of literals put on, and of those that dalelead_search went through */
 static int plans, conflicts;
 
 static int64_t rows[3 * ATOMS], why[ATOMS + 1], origins[ATOMS];
@@ -102,6 +103,16 @@ static int64_t first_open(void) {
     return 0;
 }
 
+/* Each crate on the first truck that is not ruled out, with no way back; then to the start again. */
+static void try_in_turn(void) {
+    int64_t list[CRATES * TRUCKS];
+    for (int c = 0; c < CRATES; c++)
+        for (int t = 0; t < TRUCKS; t++) list[c * TRUCKS + t] = on(c, t);
+    uint64_t rule = done(dalelead_search(area, sizeof area / sizeof *area, next[0], next[1], list, CRATES * TRUCKS, next, 4));
+    printf("in turn: %d of %d literals gone through, %d derived, conflict %d\n", (int)next[3], CRATES * TRUCKS, (int)next[2], (int)rule);
+    done(dalelead_take_back(area, sizeof area / sizeof *area, next[0], next[1], 0, next, 4));
+}
+
 static void search(void) {
     uint64_t level = next[1];
     if (done(dalelead_propagate(area, sizeof area / sizeof *area, next[0], next[1], next, 3)) != 0) {
@@ -124,6 +135,7 @@ static void search(void) {
 int main(void) {
     load();
     done(dalelead_give(area, sizeof area / sizeof *area, next[0], next[1], 1, next, 3));
+    try_in_turn();
     search();
     printf("plans %d, conflicts %d\n", plans, conflicts);
     print_literal(why[0]);

@@ -97,20 +97,26 @@ fn ended(answer: Propagated, total: u64, gone: u64) -> Searched
             gone,
             counters,
         },
-        Propagated::Still(count, counters) => Searched {
-            code: 0,
-            sentence: Sentence(0),
-            count: total + count,
-            gone,
-            counters,
-        },
-        Propagated::Conflict(sentence, count, counters) => Searched {
-            code: 0,
-            sentence,
-            count: total + count,
-            gone,
-            counters,
-        },
+        Propagated::Still(count, counters) => {
+            let all = total + count;
+            Searched {
+                code: 0,
+                sentence: Sentence(0),
+                count: all,
+                gone,
+                counters,
+            }
+        }
+        Propagated::Conflict(sentence, count, counters) => {
+            let all = total + count;
+            Searched {
+                code: 0,
+                sentence,
+                count: all,
+                gone,
+                counters,
+            }
+        }
     }
 }
 
