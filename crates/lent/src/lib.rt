@@ -5,6 +5,7 @@ use propagate::Propagated;
 use types::Atom;
 use types::Counters;
 use types::Level;
+use types::Limits;
 use types::Sentence;
 ghost use mathlib.Core.Path.{_≡_};
 ghost use mathlib.Core.List.{List};
@@ -25,23 +26,26 @@ pub struct Weighted {
     pub literal: i64,
 }
 
-// The two columns of a list of records: how many records there are, and the first 4,096 of them.
+// The most entries that load takes.
+const MOST: usize = Limits::ENTRIES as usize;
+
+// The two columns of a list of records: how many records there are, and the first of them, as many as load takes.
 struct Copied {
-    weights: [i64; 4096],
-    literals: [i64; 4096],
+    weights: [i64; MOST],
+    literals: [i64; MOST],
     count: usize,
 }
 
 // A column before anything is copied.
-fn blank() -> [i64; 4096] {
-    [0i64; 4096]
+fn blank() -> [i64; MOST] {
+    [0i64; MOST]
 }
 
 // One record, into both columns where it is inside them.
-fn copy_one(weights: &mut [i64; 4096], literals: &mut [i64; 4096], i: usize, weighted: Weighted)
-    ensures { λ _. ⌜ ((i < 4096) → (now (weights .exit) ≡ set (now (weights .entry)) i (weighted .weight)) × (now (literals .exit) ≡ set (now (literals .entry)) i (weighted .literal))) ⌝ }
+fn copy_one(weights: &mut [i64; MOST], literals: &mut [i64; MOST], i: usize, weighted: Weighted)
+    ensures { λ _. ⌜ ((i < base .entries) → (now (weights .exit) ≡ set (now (weights .entry)) i (weighted .weight)) × (now (literals .exit) ≡ set (now (literals .entry)) i (weighted .literal))) ⌝ }
 {
-    if i < 4096 {
+    if i < MOST {
         let weight = weighted.weight;
         let literal = weighted.literal;
         weights[i] = weight;
@@ -68,7 +72,7 @@ fn copy_records(records: &[Weighted]) -> Copied
     }
 }
 
-// More than 4,096 records are refused by load's first number; otherwise the columns are as long as the records.
+// More records than load takes are refused by load's first number; otherwise the columns are as long as the records.
 fn load_copied(
     area: &mut [u64],
     atoms: Atom,
@@ -82,7 +86,7 @@ fn load_copied(
     ensures { λ r. ⌜ ((records : List Weighted) → CopyOf records copied → Loads base (now (area .entry)) (now (area .exit)) (atoms .0) (columns (now (heads .entry)) (now (kinds .entry)) (now (sides .entry)) (now (bounds .entry)) (now (counts .entry)) (weights-in records) (literals-in records)) r) ⌝ }
 {
     let n = copied.count;
-    if n > 4096 {
+    if n > MOST {
         return Answer {
             code: 1,
             sentence: Sentence(0),
