@@ -21,7 +21,7 @@ use Rattle.book.proofs.Judged.{all-judged, all-scoped}
 use Rattle.book.proofs.Number.{judges-length, judges-numbered, numbered-exists, numbered-each}
 use Rattle.book.specs.Sound.{Scoped, Sound}
 use Rattle.book.proofs.Sound.{consistent}
-use Rattle.book.proofs.Sound as sound
+use Rattle.book.specs.Sound as sound
 use Rattle.book.proofs.Few.{few-rows}
 use Rattle.book.proofs.Run.{clash-means, growth}
 use Rattle.book.proofs.Tests.{Passed, both-told, reply-is}

@@ -7,13 +7,13 @@ use Rattle.listing.proofs.put_listing.Statement.{statement}
 use Rattle.listing.proofs.put_listing.Tie as tie
 
 propagate-whole-requires : tie.Need-propagate-whole-requires
-propagate-whole-requires c κs = ?
+propagate-whole-requires c κs = (base, record { fitting = base-fits; whole = c .before .before .before .pre })
 
 put-state-requires : tie.Need-put-state-requires
-put-state-requires c κs = ?
+put-state-requires c κs = still-whole (c .before .before .before .before .before .before .before .before .before .propagate-whole .result) (c .before .before .before .before .before .before .before .before .before .before .before .before .before .pre) (c .before .before .before .before .before .before .before .before .before .propagate-whole .ensures) (c .before .before .before .before .before .before .counters-of .result) (c .before .before .before .before .before .before .counters-of .ensures)
 
 returns : tie.Need-returns
-returns c = ?
+returns c = listing-put (c .before .before .before .before .before .before .before .before .before .before .before .before .propagate-whole .result) (c .before .before .before .before .before .before .before .before .before .before .before .before .before .before .before .before .pre) (c .before .before .before .before .before .before .before .before .before .before .before .before .propagate-whole .ensures) (c .before .before .before .before .before .before .before .put-propagated .ensures) (c .before .before .put-state .ensures)
 
 pub put-listing-spec : {M : Type 1} → statement M
 put-listing-spec =
