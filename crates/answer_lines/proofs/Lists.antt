@@ -67,9 +67,6 @@ module _ {page₀ page : List ℕ} {at r : ℕ} (xs : List ℤ) where
   pub all-numbers : {i : ℕ} → length xs ≤ i → Writes page₀ at page r (numbers (take i xs)) → Writes page₀ at page r (numbers xs)
   all-numbers {i} l w = subst (λ (ys : List ℤ). Writes page₀ at page r (numbers ys)) (take-all i xs l) w
 
-  pub all-rows : {i k : ℕ} → i ≡ k → Writes page₀ at page r (row-lines xs i) → Writes page₀ at page r (row-lines xs k)
-  all-rows e w = subst (λ (j : ℕ). Writes page₀ at page r (row-lines xs j)) e w
-
   -- a front of the list as long as the answer says, or all of it
   pub front-numbers : {n : ℕ} (k : ℕ) → n ≡ length (take k xs) → Writes page₀ at page r (numbers (take n xs)) → Writes page₀ at page r (numbers (take k xs))
   front-numbers {n} k e w = subst (λ (ys : List ℤ). Writes page₀ at page r (numbers ys)) (ap (λ (m : ℕ). take m xs) e ∙ cut k xs) w

@@ -9,4 +9,5 @@ pub mod Texts
 pub mod States
 pub mod Fits
 pub mod Judging
+pub mod Trails
 pub mod Checks

@@ -100,3 +100,8 @@ held-whole h l = (let k = h .place in omega arith, h .held (let k = h .place in 
 -- so the answer is a place on the page
 pub on-page : {old new text : List ℕ} {r : ℕ} → Writes old 0 new r text → length text ≤ length old → r ≤ length new
 on-page {old} {new} {text} w l = let h = w .goes [] (starts old) in let s = w .size in let k = h .place in omega arith
+
+-- ---- a loop that has written f of its counter, at its end
+
+pub counted-up : (f : ℕ → List ℕ) {p q : List ℕ} {a r i k : ℕ} → i ≡ k → Writes p a q r (f i) → Writes p a q r (f k)
+counted-up f {p} {q} {a} {r} e w = subst (λ (j : ℕ). Writes p a q r (f j)) e w

@@ -9,14 +9,14 @@ use Rattle.answer_lines.proofs.put_list.Statement.{statement}
 use Rattle.answer_lines.proofs.put_list.Tie as tie
 
 returns : tie.Need-returns
-returns c = rw (ne-eqb ((c .before .before .before .before .before .before .before .before .before) .args .answer .code) 0 (c .before .before .before .before .before .if1 .taken)) (c .before .before .put-pair .ensures)
+returns c = rw (ne-eqb (c .before .before .before .before .before .before .before .before .before .args .answer .code) 0 (c .before .before .before .before .before .if1 .taken)) (c .before .before .put-pair .ensures)
 
 slice-aggregate-put-numbers : tie.Need-slice-aggregate-put-numbers
 slice-aggregate-put-numbers c = let n = c .before .before .before .before .before .before .listed-of in
-    sym (length-take-le (n .result) ((c .before .before .before .before .before .before .before .before .before .before .before) .args .list .now) (n .ensures .0))
+    sym (length-take-le (n .result) (c .before .before .before .before .before .before .before .before .before .before .before .args .list .now) (n .ensures .0))
 
 returns-2 : tie.Need-returns-2
-returns-2 c = let a = (c .before .before .before .before .before .before .before .before .before .before .before .before .before .before .before .before .before .before .before) .args in
+returns-2 c = let a = c .before .before .before .before .before .before .before .before .before .before .before .before .before .before .before .before .before .before .before .args in
     let listed = front-numbers (a .list .now) (a .answer .value) (c .before .before .before .before .before .before .before .before .before .before .before .before .before .before .listed-of .ensures .1) (c .before .before .before .before .before .before .before .put-numbers .ensures) in
     rw (eq-eqb (a .answer .code) 0 (c .before .before .before .before .before .before .before .before .before .before .before .before .before .before .before .if1 .left)) (then (then (c .before .before .before .before .before .before .before .before .before .before .before .before .put-bytes .ensures) listed) (c .before .before .put-bytes2 .ensures))
 

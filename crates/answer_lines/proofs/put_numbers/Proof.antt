@@ -16,14 +16,14 @@ abbrev μ-loop : tie.MeasureT-loop
 μ-loop page₀ at list place₀ i₀ t6 page place i = length list - i
 
 loop-holds : tie.Need-loop-holds Inv-loop μ-loop
-loop-holds c = let a = (c .before) .args in (omega arith, no-numbers (a .list .now) (a .page .now) (a .at))
+loop-holds c = let a = c .before .args in (omega arith, no-numbers (a .list .now) (a .page .now) (a .at))
 
 loop-again : tie.Need-loop-again Inv-loop μ-loop
 loop-again c = let l = c .before .before .before .before .before .before .before .loop in
-    (omega arith, number-more ((c .before .before .before .before .before .before .before .before .before) .args .list .now) (l .i) (c .before .before .before .before .before .before .loop-test .taken) (search needs) (l .inv .1) (c .before .before .put-named .ensures))
+    (omega arith, number-more (c .before .before .before .before .before .before .before .before .before .args .list .now) (l .i) (c .before .before .before .before .before .before .loop-test .taken) (search needs) (l .inv .1) (c .before .before .put-named .ensures))
 
 returns : tie.Need-returns Inv-loop μ-loop
-returns c = all-numbers ((c .before .before .before) .args .list .now) (c .loop-test .left) (c .before .loop .inv .1)
+returns c = all-numbers (c .before .before .before .args .list .now) (c .loop-test .left) (c .before .loop .inv .1)
 
 pub put-numbers-spec : {M : Type 1} → statement M
 put-numbers-spec =

@@ -2,8 +2,9 @@
 use native.Mathlib.Omega.{arith}
 use Prim.Native.Nat.{_≤_, _-_}
 use Rattle.pages.specs.Page.{Writes}
+use Rattle.pages.proofs.Laws.{counted-up}
 use Rattle.answer_lines.specs.Lines.{row-lines}
-use Rattle.answer_lines.proofs.Lists.{no-rows, row-more, all-rows}
+use Rattle.answer_lines.proofs.Lists.{no-rows, row-more}
 use borrow.Author.Needs.{needs}
 use Rattle.answer_lines.proofs.put_rows.Statement.{statement}
 use Rattle.answer_lines.proofs.put_rows.Tie as tie
@@ -15,14 +16,14 @@ abbrev μ-loop : tie.MeasureT-loop
 μ-loop page₀ at list rows place₀ row₀ page place row = rows - row
 
 loop-holds : tie.Need-loop-holds Inv-loop μ-loop
-loop-holds c = let a = (c .before) .args in (omega arith, no-rows (a .list .now) (a .page .now) (a .at))
+loop-holds c = let a = c .before .args in (omega arith, no-rows (a .list .now) (a .page .now) (a .at))
 
 loop-again : tie.Need-loop-again Inv-loop μ-loop
-loop-again c = let l = c .before .before .before .before .before .before .before .before .loop in let a = (c .before .before .before .before .before .before .before .before .before .before) .args in
+loop-again c = let l = c .before .before .before .before .before .before .before .before .loop in let a = c .before .before .before .before .before .before .before .before .before .before .args in
     (omega arith, row-more (a .list .now) (l .row) (search needs) (search needs) (search needs) (l .inv .1) (c .before .before .put-row .ensures))
 
 returns : tie.Need-returns Inv-loop μ-loop
-returns c = let i = c .before .loop .inv in all-rows ((c .before .before .before) .args .list .now) (omega (arith, i .0)) (i .1)
+returns c = let i = c .before .loop .inv in counted-up (row-lines (c .before .before .before .args .list .now)) (omega (arith, i .0)) (i .1)
 
 pub put-rows-spec : {M : Type 1} → statement M
 put-rows-spec =

@@ -7,7 +7,7 @@ use Rattle.console.proofs.answer_bounds.Statement.{statement}
 use Rattle.console.proofs.answer_bounds.Tie as tie
 
 write-requires : tie.Need-write-requires
-write-requires c κs = on-page (c .before .before .put-bounds .ensures) (bounds-fits (bounds-paper ((c .before .before .before .before) .args .answer)))
+write-requires c κs = on-page (c .before .before .put-bounds .ensures) (bounds-fits (bounds-paper (c .before .before .before .before .args .answer)))
 
 pub answer-bounds-spec : {M : Type 1} → statement M
 answer-bounds-spec =

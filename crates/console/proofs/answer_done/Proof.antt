@@ -7,7 +7,7 @@ use Rattle.console.proofs.answer_done.Statement.{statement}
 use Rattle.console.proofs.answer_done.Tie as tie
 
 write-requires : tie.Need-write-requires
-write-requires c κs = let s = (c .before .before .before .before .before) in on-page (c .before .before .put-done .ensures) (done-fits (s .args .name .now) (done-paper (s .args .answer)) (s .pre))
+write-requires c κs = let s = c .before .before .before .before .before in on-page (c .before .before .put-done .ensures) (done-fits (s .args .name .now) (done-paper (s .args .answer)) (s .pre))
 
 pub answer-done-spec : {M : Type 1} → statement M
 answer-done-spec =

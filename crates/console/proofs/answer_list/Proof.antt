@@ -7,8 +7,8 @@ use Rattle.console.proofs.answer_list.Statement.{statement}
 use Rattle.console.proofs.answer_list.Tie as tie
 
 write-requires : tie.Need-write-requires
-write-requires c κs = let s = (c .before .before .before .before .before .before) in let a = s .args in
-    list-on-page (listed-paper (a .answer)) (a .list .now) 1026 (c .before .before .before .put-list-arg .given .0) (a .name .now) (s .pre) refl (c .before .before .put-list .ensures)
+write-requires c κs = let s = c .before .before .before .before .before .before in let a = s .args in
+    list-on-page (listed-paper (a .answer)) (a .list .now) 1024 (c .before .before .before .put-list-arg .given .0) (a .name .now) (s .pre) refl (c .before .before .put-list .ensures)
 
 pub answer-list-spec : {M : Type 1} → statement M
 answer-list-spec =

@@ -6,7 +6,7 @@ use Rattle.console.proofs.answer_plan.Statement.{statement}
 use Rattle.console.proofs.answer_plan.Tie as tie
 
 write-requires : tie.Need-write-requires
-write-requires c κs = on-page (c .before .before .put-plan .ensures) (plan-fits ((c .before .before .before .before) .args .answer))
+write-requires c κs = on-page (c .before .before .put-plan .ensures) (plan-fits (c .before .before .before .before .args .answer))
 
 pub answer-plan-spec : {M : Type 1} → statement M
 answer-plan-spec =

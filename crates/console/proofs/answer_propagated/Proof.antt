@@ -6,7 +6,7 @@ use Rattle.console.proofs.answer_propagated.Statement.{statement}
 use Rattle.console.proofs.answer_propagated.Tie as tie
 
 write-requires : tie.Need-write-requires
-write-requires c κs = on-page (c .before .before .put-propagated .ensures) (propagated-fits ((c .before .before .before .before) .args .answer))
+write-requires c κs = on-page (c .before .before .put-propagated .ensures) (propagated-fits (c .before .before .before .before .args .answer))
 
 pub answer-propagated-spec : {M : Type 1} → statement M
 answer-propagated-spec =

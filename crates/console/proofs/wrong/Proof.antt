@@ -8,7 +8,7 @@ use Rattle.console.proofs.wrong.Statement.{statement}
 use Rattle.console.proofs.wrong.Tie as tie
 
 write-requires : tie.Need-write-requires
-write-requires c κs = on-page (c .before .before .put-line .ensures) (simp length-append (omega (arith, decimal-short ((c .before .before .before .before .before) .args .s .lines))))
+write-requires c κs = on-page (c .before .before .put-line .ensures) (simp length-append (omega (arith, decimal-short (c .before .before .before .before .before .args .s .lines))))
 
 pub wrong-spec : {M : Type 1} → statement M
 wrong-spec =

@@ -34,8 +34,11 @@ loop-less : tie.Need-loop-less Inv-loop μ-loop
 loop-less c = omega arith
 
 loop-again : tie.Need-loop-again Inv-loop μ-loop
-loop-again c = let l = c .before .before .before .before .before .before in let s = l .before .before in
-    (omega arith, heads-more (toZ w64 (s .args .variables + (l .loop .k + 1))) (natural (s .args .variables + (l .loop .k + 1)) (omega (arith, s .pre .few))) (c .before .before .before .before .before .before .loop .inv .1) (c .before .before .before .give-whole .ensures base (record { fitting = base-fits; whole = c .before .before .before .before .before .before .loop .inv .1 .stands .whole })))
+loop-again c = let l = c .before .before .before .before .before .before .loop in let s = c .before .before .before .before .before .before .before .before in let head = s .args .variables + (l .k + 1) in let g = l .inv .1 in (
+  omega arith,
+  heads-more (toZ w64 head) (natural head (omega (arith, s .pre .few))) g
+      (c .before .before .before .give-whole .ensures base (record { fitting = base-fits; whole = g .stands .whole })),
+)
 
 same-length : tie.Need-same-length Inv-loop μ-loop
 same-length c = c .before .loop .inv .1 .size

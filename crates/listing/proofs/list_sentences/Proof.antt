@@ -6,18 +6,18 @@ use Rattle.listing.proofs.list_sentences.Statement.{statement}
 use Rattle.listing.proofs.list_sentences.Tie as tie
 
 returns : tie.Need-returns
-returns c = let a = (c .before .before .before .before .before .before .before .before .before .before .before .before .before .before .before .before) .args in
+returns c = let a = c .before .before .before .before .before .before .before .before .before .before .before .before .before .before .before .before .args in
     refusal-answered (a .variables) (a .constraints) refl (c .before .before .before .before .before .before .before .before .before .load .ensures) (c .before .before .before .before .before .if1 .taken) (c .before .before .put-pair .ensures)
 
 give-heads-requires : tie.Need-give-heads-requires
-give-heads-requires c κs = let s = (c .before .before .before .before .before .before .before .before .before .before .before .before) in
+give-heads-requires c κs = let s = c .before .before .before .before .before .before .before .before .before .before .before .before in
     heads-asked (s .args .variables) (s .args .constraints) refl (c .before .before .before .before .before .load .ensures) (c .before .if1 .left) (s .pre)
 
 put-listing-requires : tie.Need-put-listing-requires
 put-listing-requires c κs = c .before .before .before .give-heads .ensures .stands .whole
 
 returns-2 : tie.Need-returns-2
-returns-2 c = let a = (c .before .before .before .before .before .before .before .before .before .before .before .before .before .before .before .before .before .before .before .before) .args in
+returns-2 c = let a = c .before .before .before .before .before .before .before .before .before .before .before .before .before .before .before .before .before .before .before .before .args in
     listing-answered (a .variables) (a .constraints) refl (c .before .before .before .before .before .before .before .before .before .before .before .before .before .load .ensures) (c .before .before .before .before .before .before .before .before .before .if1 .left) (c .before .before .before .before .before .before .before .give-heads .ensures) (c .before .before .before .put-listing .ensures)
 
 pub list-sentences-spec : {M : Type 1} → statement M

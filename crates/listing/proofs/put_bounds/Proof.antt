@@ -1,15 +1,14 @@
 -- The bounds of the first k sentences are on the page.
 use borrow.Author.Needs.{needs}
 use native.Mathlib.Omega.{arith}
-use mathlib.Core.Path.{_≡_, sym, subst}
-use mathlib.Core.List.{List}
-use Prim.Native.Nat.{ℕ, _≤_, _-_}
+use mathlib.Core.Path.{sym, subst}
+use Prim.Native.Nat.{_≤_, _-_}
 use Rattle.types.specs.Limits.{base, Fitting}
 use Rattle.types.specs.declared.Limits.{Limits}
-use Rattle.book.specs.Table.{State}
 use Rattle.area.specs.Whole.{Whole}
 use Rattle.calls.specs.Calls.{area-state, counted}
 use Rattle.pages.specs.Page.{Writes}
+use Rattle.pages.proofs.Laws.{counted-up}
 use Rattle.listing.specs.Output.{bound-lines}
 use Rattle.listing.proofs.Loops.{no-bounds, bound-more}
 use Rattle.load.proofs.Base.{base-fits}
@@ -22,24 +21,23 @@ Inv-loop page₀ at area counters sentences place₀ k₀ page place k = (k ≤ 
 abbrev μ-loop : tie.MeasureT-loop
 μ-loop page₀ at area counters sentences place₀ k₀ page place k = sentences - k
 
-all-bounds : (q : State) {old new : List ℕ} {at r i k : ℕ} → i ≡ k → Writes old at new r (bound-lines q i) → Writes old at new r (bound-lines q k)
-all-bounds q {old} {new} {at} {r} e = subst (λ (j : ℕ). Writes old at new r (bound-lines q j)) e
-
 loop-holds : tie.Need-loop-holds Inv-loop μ-loop
 loop-holds c = let s = c .before .before in (omega arith, no-bounds (area-state base (s .args .area .now)) (s .args .page .now) (s .args .at))
 
 stored-bounds-requires : tie.Need-stored-bounds-requires Inv-loop μ-loop
-stored-bounds-requires c κs = let s = c .before .before .before .before .before in subst (λ (x : Limits). Fitting x × Whole x (s .args .area .now) (counted (s .args .counters))) (sym (c .base .ensures)) (base-fits, s .pre)
+stored-bounds-requires c κs = let s = c .before .before .before .before .before in
+    subst (λ (x : Limits). Fitting x × Whole x (s .args .area .now) (counted (s .args .counters))) (sym (c .base .ensures)) (base-fits, s .pre)
 
 loop-again : tie.Need-loop-again Inv-loop μ-loop
-loop-again c = let l = c .before .before .before .before .before .before .before .loop in
-    (omega arith, bound-more (c .before .before .before .before .before .before .before .before .before .before .args .area .now) (l .k) (c .before .before .before .before .stored-bounds .result) (c .before .before .before .before .before .base .ensures) (c .before .before .before .before .stored-bounds .ensures) (l .inv .1) (c .before .before .put-bound .ensures))
+loop-again c = let l = c .before .before .before .before .before .before .before .loop in let s = c .before .before .before .before .stored-bounds in
+    (omega arith, bound-more (c .before .before .before .before .before .before .before .before .before .before .args .area .now) (l .k) (s .result) (c .before .before .before .before .before .base .ensures) (s .ensures) (l .inv .1) (c .before .before .put-bound .ensures))
 
 same-length : tie.Need-same-length Inv-loop μ-loop
 same-length c = c .before .loop .inv .1 .size
 
 returns : tie.Need-returns Inv-loop μ-loop
-returns c = let i = c .before .loop .inv in let s = c .before .before .before .before in all-bounds (area-state base (s .args .area .now)) (omega (arith, i .0)) (i .1)
+returns c = let i = c .before .loop .inv in
+    counted-up (bound-lines (area-state base (c .before .before .before .before .args .area .now))) (omega (arith, i .0)) (i .1)
 
 pub put-bounds-spec : {M : Type 1} → statement M
 put-bounds-spec =

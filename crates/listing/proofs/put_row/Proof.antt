@@ -7,7 +7,7 @@ use Rattle.listing.proofs.put_row.Statement.{statement}
 use Rattle.listing.proofs.put_row.Tie as tie
 
 returns : tie.Need-returns
-returns c = let s = (c .before .before .before .before .before .before .before .before .before .before .before) in
+returns c = let s = c .before .before .before .before .before .before .before .before .before .before .before in
     then-pair (bytes " ") _ _ (named-put (bytes "t ") (s .args .literal) (s .fits .literal) (c .before .before .before .before .before .before .before .put-named .ensures)) (c .before .before .put-pair .ensures)
 
 pub put-row-spec : {M : Type 1} → statement M

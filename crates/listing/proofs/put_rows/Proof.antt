@@ -1,11 +1,10 @@
 -- The first i rows are on the page.
 use borrow.Author.Needs.{needs}
 use native.Mathlib.Omega.{arith}
-use mathlib.Core.Path.{_≡_, subst}
-use mathlib.Core.List.{List}
 use Prim.Native.Nat.{ℕ, _≤_, _-_}
 use Rattle.area.specs.Layout.{rows-from}
 use Rattle.pages.specs.Page.{Writes}
+use Rattle.pages.proofs.Laws.{counted-up}
 use Rattle.listing.specs.Output.{row-lines}
 use Rattle.listing.proofs.Loops.{no-rows, row-more}
 use Rattle.listing.proofs.put_rows.Statement.{statement}
@@ -17,20 +16,19 @@ Inv-loop page₀ at area n rows place₀ i₀ page place i = (i ≤ rows) × Wri
 abbrev μ-loop : tie.MeasureT-loop
 μ-loop page₀ at area n rows place₀ i₀ page place i = rows - i
 
-all-rows : (w : List ℕ) (n : ℕ) {old new : List ℕ} {at r i k : ℕ} → i ≡ k → Writes old at new r (row-lines (rows-from w n i)) → Writes old at new r (row-lines (rows-from w n k))
-all-rows w n {old} {new} {at} {r} e = subst (λ (j : ℕ). Writes old at new r (row-lines (rows-from w n j))) e
-
 loop-holds : tie.Need-loop-holds Inv-loop μ-loop
 loop-holds c = let s = c .before .before in (omega arith, no-rows (s .args .area .now) (s .args .n) (s .args .page .now) (s .args .at))
 
 loop-again : tie.Need-loop-again Inv-loop μ-loop
-loop-again c = let s = c .before .before .before .before .before .before .before .before .before .before .before in (omega (arith, c .before .before .before .before .before .before .before .before .loop .inv .0), row-more (s .args .area .now) (s .args .n) (c .before .before .before .before .before .before .before .before .loop .i) (c .before .before .before .before .before .literal-of .result) (search needs) (c .before .before .before .before .before .literal-of .ensures) (c .before .before .before .before .before .before .before .before .loop .inv .1) (c .before .before .put-row .ensures))
+loop-again c = let l = c .before .before .before .before .before .before .before .before .loop in let a = c .before .before .before .before .before .before .before .before .before .before .before .args in let z = c .before .before .before .before .before .literal-of in
+    (omega (arith, l .inv .0), row-more (a .area .now) (a .n) (l .i) (z .result) (search needs) (z .ensures) (l .inv .1) (c .before .before .put-row .ensures))
 
 same-length : tie.Need-same-length Inv-loop μ-loop
 same-length c = c .before .loop .inv .1 .size
 
 returns : tie.Need-returns Inv-loop μ-loop
-returns c = let i = c .before .loop .inv in let s = c .before .before .before .before in all-rows (s .args .area .now) (s .args .n) (omega (arith, i .0)) (i .1)
+returns c = let i = c .before .loop .inv in let a = c .before .before .before .before .args in
+    counted-up (λ (j : ℕ). row-lines (rows-from (a .area .now) (a .n) j)) (omega (arith, i .0)) (i .1)
 
 pub put-rows-spec : {M : Type 1} → statement M
 put-rows-spec =
