@@ -3,7 +3,8 @@ use mathlib.Core.Path.{_≡_}
 use mathlib.Core.List.{List}
 use Prim.Native.Nat.{ℕ, _+_, _≤_}
 use lib.ListN.{length}
-use Rattle.types.specs.Limits.{base}
+use Rattle.types.specs.Limits.{base, widest}
+use Rattle.types.specs.declared.Limits.{Limits}
 use Rattle.types.specs.declared.Counters.{Counters}
 use Rattle.book.specs.Table.{State}
 use Rattle.area.specs.Whole.{Whole}
@@ -27,7 +28,7 @@ start = record { length = 0; level = record { 0 = 0 } }
 -- an empty trail, and heads that are atoms of the layout
 pub record HeadsAsked (w : List ℕ) (v c : ℕ) : Type 0 where
   pub whole : WholeArea w start
-  pub few : v + c ≤ 4096
+  pub few : v + c ≤ widest .atoms
 
 pub record HeadsGiven (w w′ : List ℕ) (v c : ℕ) (r : Counters) : Type 0 where
   pub stands : Stands w′ r (heads-given (area-state base w) v c)

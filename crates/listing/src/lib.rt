@@ -1,5 +1,6 @@
 // The OPB program of document 01 on a lent page: a text is read and loaded, its heads are given in order at level 0, propagate is called,
-// and the answer, the trail and the bounds of each sentence are put on the page. Load leaves the area whole, and no call after it checks the area again.
+// and the answer, the trail and the bounds of each sentence are put on the page. Load leaves the area whole, and no call after it checks
+// the area again.
 use calls::Bounds;
 use types::Atom;
 use types::Counters;
@@ -8,7 +9,7 @@ use types::Limits;
 use types::Sentence;
 ghost use Prim.Native.Nat.{_+_, _*_, _≤_};
 ghost use lib.ListN.{length};
-ghost use Rattle.types.specs.Limits.{base};
+ghost use Rattle.types.specs.Limits.{base, widest};
 ghost use Rattle.book.specs.Rows.{row};
 ghost use Rattle.area.specs.Layout.{rows-from};
 ghost use Rattle.calls.specs.Calls.{area-state, bounds-paper};
@@ -16,6 +17,13 @@ ghost use Rattle.columns.specs.Columns.{columns};
 ghost use Rattle.pages.specs.Page.{Writes};
 ghost use Rattle.listing.specs.Output.{row-line, bound-line, row-lines, bound-lines, state-lines, listing, Prints};
 ghost use Rattle.listing.specs.Steps.{WholeArea, HeadsAsked, HeadsGiven, Answers};
+
+// The columns and the area that every text within the limits has room in.
+const SENTENCES: usize = Limits::SENTENCES as usize;
+
+const ENTRIES: usize = Limits::ENTRIES as usize;
+
+const WORDS: usize = 4 * Limits::ATOMS as usize + 8 * SENTENCES + 2 * ENTRIES;
 
 // ---- lines
 
@@ -40,7 +48,7 @@ fn put_bound(page: &mut [u8], at: usize, sentence: u64, bounds: Bounds) -> usize
 
 // The trail's first rows, from the words of the area.
 fn put_rows(page: &mut [u8], at: usize, area: &[u64], n: usize, rows: usize) -> usize
-    requires { ⌜ (n ≤ 4096) × (rows ≤ n) × (4 * n ≤ length (now area)) ⌝ }
+    requires { ⌜ (n ≤ widest .atoms) × (rows ≤ n) × (4 * n ≤ length (now area)) ⌝ }
     ensures { λ r. ⌜ Writes (now (page .entry)) at (now (page .exit)) r (row-lines (rows-from (now (area .entry)) n rows)) ⌝ }
 {
     let mut place = at;
@@ -126,10 +134,10 @@ fn list_sentences(
     weights: &[i64],
     literals: &[i64],
 ) -> usize
-    requires { ⌜ variables + constraints ≤ 1024 ⌝ }
+    requires { ⌜ variables + constraints ≤ base .atoms ⌝ }
     ensures { λ r. ⌜ Answers (now (page .entry)) (now (page .exit)) r variables constraints (columns (now (heads .entry)) (now (kinds .entry)) (now (sides .entry)) (now (bounds .entry)) (now (counts .entry)) (now (weights .entry)) (now (literals .entry))) ⌝ }
 {
-    let mut area = [0u64; 14336];
+    let mut area = [0u64; WORDS];
     let loaded = load::load(
         &mut area,
         Atom(variables + constraints),
@@ -153,13 +161,13 @@ fn list_sentences(
 pub fn run(text: &[u8], page: &mut [u8]) -> usize
     ensures { λ r. ⌜ Prints (now (text .entry)) (now (page .entry)) (now (page .exit)) r ⌝ }
 {
-    let mut heads = [0u64; 256];
-    let mut kinds = [0u64; 256];
-    let mut sides = [0u64; 256];
-    let mut bounds = [0i64; 256];
-    let mut counts = [0u64; 256];
-    let mut weights = [0i64; 4096];
-    let mut literals = [0i64; 4096];
+    let mut heads = [0u64; SENTENCES];
+    let mut kinds = [0u64; SENTENCES];
+    let mut sides = [0u64; SENTENCES];
+    let mut bounds = [0i64; SENTENCES];
+    let mut counts = [0u64; SENTENCES];
+    let mut weights = [0i64; ENTRIES];
+    let mut literals = [0i64; ENTRIES];
     let r = opb_text::read_text(
         text,
         &mut heads,
