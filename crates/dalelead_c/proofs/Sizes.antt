@@ -14,7 +14,7 @@ use Rattle.numbers.proofs.Words.{cases}
 use Rattle.meaning.specs.Meaning.{atom, Each, Said, silent, conflict, forced}
 use Rattle.meaning.specs.Merge.{Rule, scope}
 use Rattle.book.specs.Rows.{Row, row, trail, causes, row-of, numbered, comes-from, in-order}
-use Rattle.book.specs.Table.{Call, propagate, search, explain, explain-conflict, origin, list-trail, Paper, paper, Judged, scopes, State, Speech, nothing, objects, derives, spoken, speech, run, propagated, result, on-trail, Outcome, ended, End, end, apart, put-on, propagating, following, turning, tried, trying, searching, reply}
+use Rattle.book.specs.Table.{Call, propagate, search, explain, explain-conflict, origin, list-trail, Paper, paper, Judged, scopes, State, Speech, nothing, objects, derives, spoken, speech, run, propagated, result, on-trail, Outcome, ended, End, end, apart, put-on, propagating, following, turning, tried, trying, reply}
 use Rattle.book.specs.Book.{Counters, judged-all}
 use Rattle.book.proofs.Keeps.{next, state-at}
 use Rattle.area.specs.Layout.{atoms-of, sentences-of, length-of, rows-of, record-at, rule-at, rules-from, theory-of}

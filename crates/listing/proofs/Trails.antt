@@ -3,21 +3,17 @@ use mathlib.Core.Path.{_≡_, refl, sym, ap, ap₂, _∙_}
 use mathlib.Core.List.{List, [], _∷_, _++_, append-assoc}
 use Prim.Native.Nat.{ℕ, _+_, _*_, _/_}
 use native.Mathlib.Omega.{arith}
-use lib.ListN.{length, drop, length-append}
+use lib.ListN.{length, drop}
 use lib.Seq.{take-at, getD-append-add}
 use lib.IntN.{ℤ, pos}
 use Rattle.numbers.specs.Text.{bytes, decimal}
 use Rattle.book.specs.Rows.{Row, flat}
 use Rattle.book.specs.Table.{listed, paper, list-after}
+use Rattle.reports.proofs.Rows.{flat-length}
 use Rattle.columns.specs.Indexed.{nth}
 use Rattle.answer_lines.specs.Lines as answers
 use Rattle.answer_lines.specs.Lines.{trail-lines}
 use Rattle.listing.specs.Output.{row-line, row-lines}
-
-flat-length : (rs : List Row) → length (flat rs) ≡ 3 * length rs
-unfolding flat
-flat-length [] = refl
-flat-length (r ∷ rs) = omega (arith, length-append (flat rs) (r .literal ∷ pos (r .level) ∷ pos (r .reason) ∷ []), flat-length rs)
 
 behind : (xs ys : List ℤ) (k i : ℕ) → length xs ≡ k → nth (xs ++ ys) (k + i) ≡ nth ys i
 behind xs ys k i e = ap (λ (m : ℕ). nth (xs ++ ys) (m + i)) (sym e) ∙ getD-append-add xs ys i (pos 0)

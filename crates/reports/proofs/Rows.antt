@@ -14,7 +14,7 @@ use Rattle.area.specs.Layout.{mark-at, row-at, rows-from}
 use Rattle.trail_check.proofs.Rows.{rows-length}
 use Rattle.reports.proofs.Signs.{natural}
 
-flat-length : (rs : List Row) → length (flat rs) ≡ 3 * length rs
+pub flat-length : (rs : List Row) → length (flat rs) ≡ 3 * length rs
 unfolding flat
 flat-length [] = refl
 flat-length (r ∷ rs) = omega (arith, length-append (flat rs) (r .literal ∷ pos (r .level) ∷ pos (r .reason) ∷ []), flat-length rs)

@@ -13,7 +13,7 @@ use Rattle.meaning.specs.Meaning.{atom}
 use Rattle.book.specs.Rows.{Row}
 use Rattle.book.specs.Table.{open-level, give, refused, Paper, paper, State, no-atom, on-trail, Outcome, unchanged, giving, opening, following, reply}
 use Rattle.book.specs.Book.{Counters, judged-all}
-use Rattle.book.proofs.Making.{open-taken, give-taken}
+use Rattle.book.proofs.Making.{give-taken}
 use Rattle.area.specs.Layout.{atoms-of, level-of, rows-of, theory-of}
 use Rattle.area.specs.Whole.{Whole}
 use Rattle.calls.specs.Calls.{area-state, is-refusal, keeps, Moved, Acts}

@@ -1,7 +1,6 @@
 -- Each case of the answer is what `ended-by` says of it.
 use mathlib.Core.Path.{_≡_, sym, ap}
 use native.Mathlib.Omega.{arith}
-use Prim.Native.Nat.{ℕ}
 use Rattle.propagate.specs.declared.Propagated.{Propagated}
 use Rattle.propagate.specs.Propagate.{propagated-paper}
 use Rattle.search.specs.Turn.{ended-by}
