@@ -79,11 +79,21 @@ value-word (r ∷ rs) a = cond (eqb (atom (r .literal)) a) (1 + 2 * length rs + 
 abbrev pub record-at : ℕ → ℕ → ℕ
 record-at n s = 4 * n + 8 * s
 
+abbrev pub head-at : List ℕ → ℕ → ℕ
+head-at w b = word w b
+
+-- kind + 8 × side + 16 × pending
 abbrev pub tag-at : List ℕ → ℕ → ℕ
 tag-at w b = word w (b + 1)
 
 abbrev pub pending-at : List ℕ → ℕ → Bool
 pending-at w b = leb 16 (tag-at w b)
+
+abbrev pub bound-at : List ℕ → ℕ → ℕ
+bound-at w b = word w (b + 2)
+
+abbrev pub constant-at : List ℕ → ℕ → ℕ
+constant-at w b = word w (b + 3)
 
 abbrev pub least-at : List ℕ → ℕ → ℕ
 least-at w b = word w (b + 4)
@@ -130,16 +140,23 @@ entries-of (x ∷ l ∷ rest) = record { weight = unbias x; literal = literal-of
 abbrev pub entry-at : List ℕ → ℕ → ℕ → ℕ → ℕ
 entry-at w n S b = 4 * n + 8 * S + 2 * before-at w b
 
+-- of entry j of the sentence at b, from 0
+abbrev pub weight-at : List ℕ → ℕ → ℕ → ℕ → ℕ → ℕ
+weight-at w n S b j = word w (entry-at w n S b + 2 * j)
+
+abbrev pub entry-literal-at : List ℕ → ℕ → ℕ → ℕ → ℕ → ℕ
+entry-literal-at w n S b j = word w (entry-at w n S b + 2 * j + 1)
+
 abbrev pub entry-words : List ℕ → ℕ → ℕ → List ℕ
 entry-words w at k = slice at (at + 2 * k) w
 
 abbrev pub rule-at : List ℕ → ℕ → ℕ → ℕ → Rule
 rule-at w n S b = record {
-  head = word w b;
+  head = head-at w b;
   kind = kind-of (tag-at w b % 8);
   side = side-of (tag-at w b / 8 % 2);
-  bound = unbias (word w (b + 2));
-  set = record { constant = constant-of (kind-of (tag-at w b % 8)) (word w (b + 3)); entries = entries-of (entry-words w (entry-at w n S b) (merged-at w b)) };
+  bound = unbias (bound-at w b);
+  set = record { constant = constant-of (kind-of (tag-at w b % 8)) (constant-at w b); entries = entries-of (entry-words w (entry-at w n S b) (merged-at w b)) };
   written = written-at w b;
 }
 

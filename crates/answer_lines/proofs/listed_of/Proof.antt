@@ -8,5 +8,4 @@ pub listed-of-spec : {M : Type 1} → statement M
 listed-of-spec =
     tie.close
     (tie.spec
-    (λ c. simp length-take (omega arith))
-    (λ c. simp length-take (omega arith)))
+    (λ c. simp length-take (omega arith)) (λ c. simp length-take (omega arith)))

@@ -20,14 +20,5 @@ pub put-bound-spec : {M : Type 1} → statement M
 put-bound-spec =
     tie.close
     (tie.spec
-    (λ c. search needs)
-    (λ c κs. search needs)
-    (λ c. search needs)
-    returns
-    (λ c. search needs)
-    (λ c κs. search needs)
-    (λ c. search needs)
-    returns-2
-    (λ c κs. search needs)
-    (λ c. search needs)
-    returns-3)
+    (λ c. search needs) (λ c κs. search needs) (λ c. search needs) returns (λ c. search needs) (λ c κs. search needs) (λ c. search needs) returns-2
+    (λ c κs. search needs) (λ c. search needs) returns-3)

@@ -22,13 +22,5 @@ pub put-trail-spec : {M : Type 1} → statement M
 put-trail-spec =
     tie.close
     (tie.spec
-    (λ c. search needs)
-    (λ c κs. search needs)
-    (λ c. search needs)
-    returns
-    (λ c κs. search needs)
-    (λ c κs. omega (arith, c .before .listed-of .ensures .0))
-    (λ c. search needs)
-    (λ c κs. search needs)
-    (λ c. search needs)
-    returns-2)
+    (λ c. search needs) (λ c κs. search needs) (λ c. search needs) returns (λ c κs. search needs)
+    (λ c κs. omega (arith, c .before .listed-of .ensures .0)) (λ c. search needs) (λ c κs. search needs) (λ c. search needs) returns-2)

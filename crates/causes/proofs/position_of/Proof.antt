@@ -16,30 +16,12 @@ use Rattle.causes.proofs.position_of.Tie as tie
 told-sign : (c : tie.After-sign-of) → c .sign-of .result ≡ sign (c .before .before .before .before .args .literal)
 told-sign c = let s = c .before .before .before .before in c .sign-of .ensures ∙ ap {A = ℤ} sign (toZ-ofZ w64 (s .args .literal) (s .fits .literal))
 
-sub-v : tie.Need-sub-v
-sub-v c = search needs
-
-add-v : tie.Need-add-v
-add-v c = search needs
-
-mul-v : tie.Need-mul-v
-mul-v c = search needs
-
-shared-slice-read-v : tie.Need-shared-slice-read-v
-shared-slice-read-v c = search needs
-
 returns : tie.Need-returns
 returns c = let s = c .before .before .before in
     let w = s .args .area .now in
     let l = s .args .literal in
     let e = s .pre .1 in
     position-open w (s .args .n) (s .args .rows) (s .pre .0) l (omega arith) (omega arith) (ap {A = ℕ} (value-at w (s .args .n)) (sym e) ∙ c .if1 .taken)
-
-sub-if2 : tie.Need-sub-if2
-sub-if2 c = search needs
-
-sign-of-requires : tie.Need-sign-of-requires
-sign-of-requires c κs = search needs
 
 returns-2 : tie.Need-returns-2
 returns-2 c = let s = c .before .before .before .before .before in
@@ -48,9 +30,6 @@ returns-2 c = let s = c .before .before .before .before .before in
     let same : value-at w (s .args .n) (s .args .size) ≡ value-at w (s .args .n) (atom l) = ap {A = ℕ} (value-at w (s .args .n)) (s .pre .1) in
     position-opposite w (s .args .n) (s .args .rows) (s .pre .0) l (omega arith) (omega arith)
     (λ z. c .before .before .if1 .left (same ∙ z)) (λ z. c .if2 .taken (ap {A = ℕ} (λ v. (v - 1) % 2) same ∙ z ∙ sym (told-sign (c .before))))
-
-sub-result : tie.Need-sub-result
-sub-result c = search needs
 
 returns-3 : tie.Need-returns-3
 returns-3 c = let s = c .before .before .before .before .before in
@@ -65,13 +44,5 @@ pub position-of-spec : {M : Type 1} → statement M
 position-of-spec =
     tie.close
     (tie.spec
-    sub-v
-    add-v
-    mul-v
-    shared-slice-read-v
-    returns
-    sub-if2
-    sign-of-requires
-    returns-2
-    sub-result
-    returns-3)
+    (λ c. search needs) (λ c. search needs) (λ c. search needs) (λ c. search needs) returns (λ c. search needs) (λ c κs. search needs) returns-2
+    (λ c. search needs) returns-3)

@@ -21,9 +21,6 @@ sign-none (negsuc a) e = cc
 told-negative : (c : tie.After-negative) → is-negative (c .before .args .literal) ≡ c .negative .result
 told-negative c = sym (c .negative .ensures ∙ ap {A = ℤ} is-negative (toZ-ofZ w64 (c .before .args .literal) (c .before .fits .literal)))
 
-negative-requires : tie.Need-negative-requires
-negative-requires c κs = search needs
-
 returns : tie.Need-returns
 returns c = let s = c .before .before in
     sign-one (s .args .literal) (told-negative (c .before) ∙ c .if1 .taken)
@@ -33,4 +30,6 @@ returns-2 c = let s = c .before .before in
     sign-none (s .args .literal) (told-negative (c .before) ∙ c .if1 .left)
 
 pub sign-of-spec : {M : Type 1} → statement M
-sign-of-spec = tie.close (tie.spec negative-requires returns returns-2)
+sign-of-spec = tie.close
+    (tie.spec
+    (λ c κs. search needs) returns returns-2)

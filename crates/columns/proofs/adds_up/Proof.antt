@@ -20,20 +20,8 @@ abbrev μ-loop : tie.MeasureT-loop
 loop-holds : tie.Need-loop-holds Inv-loop μ-loop
 loop-holds c = (omega arith, omega (arith, sum-none (c .args .counts .now)))
 
-mul-count : tie.Need-mul-count Inv-loop μ-loop
-mul-count c = search needs
-
-shared-slice-read-count : tie.Need-shared-slice-read-count Inv-loop μ-loop
-shared-slice-read-count c = search needs
-
 returns : tie.Need-returns Inv-loop μ-loop
 returns c = let cs = c .before .before .before .before .args .counts .now in sym (ne-eqb (sum-first cs (length cs)) (c .before .before .before .before .args .total) (λ e. omega (arith, e, c .before .before .before .loop .inv .1, sum-step cs (c .before .before .before .loop .i), sum-upto cs (c .before .before .before .loop .i + 1) (length cs) (omega arith))))
-
-add-i : tie.Need-add-i Inv-loop μ-loop
-add-i c = search needs
-
-loop-less : tie.Need-loop-less Inv-loop μ-loop
-loop-less c = search needs
 
 loop-again : tie.Need-loop-again Inv-loop μ-loop
 loop-again c = (omega arith, omega (arith, c .before .before .before .loop .inv .1, sum-step (c .before .before .before .before .args .counts .now) (c .before .before .before .loop .i)))
@@ -42,4 +30,6 @@ returns-2 : tie.Need-returns-2 Inv-loop μ-loop
 returns-2 c = let cs = c .before .before .args .counts .now in let e : c .before .loop .i ≡ length cs = omega arith in left-zero (c .before .loop .left) (sum-first cs (length cs)) (c .before .before .args .total) (omega (arith, c .before .loop .inv .1, ap {A = ℕ} (sum-first cs) e))
 
 pub adds-up-spec : {M : Type 1} → statement M
-adds-up-spec = tie.close (tie.spec Inv-loop μ-loop loop-holds mul-count shared-slice-read-count returns add-i loop-less loop-again returns-2)
+adds-up-spec = tie.close
+    (tie.spec
+    Inv-loop μ-loop loop-holds (λ c. search needs) (λ c. search needs) returns (λ c. search needs) (λ c. search needs) loop-again returns-2)

@@ -54,18 +54,6 @@ marked c = c .mark .ensures ∙ of-element (λ z. 1 + sign z) (nth (c .before .b
 loop-holds : tie.Need-loop-holds Inv-loop μ-loop
 loop-holds c = (omega arith, refl, none-met _ 4097 refl, some-none _)
 
-mul-l : tie.Need-mul-l Inv-loop μ-loop
-mul-l c = search needs
-
-shared-slice-copy-out-l : tie.Need-shared-slice-copy-out-l Inv-loop μ-loop
-shared-slice-copy-out-l c = search needs
-
-size-requires : tie.Need-size-requires Inv-loop μ-loop
-size-requires c κs = search needs
-
-mark-requires : tie.Need-mark-requires Inv-loop μ-loop
-mark-requires c κs = search needs
-
 array-read-before : tie.Need-array-read-before Inv-loop μ-loop
 array-read-before c = let k = known (c .before) in omega (arith, k .is, k .high)
 
@@ -79,12 +67,6 @@ returns c = let k = known (c .before .before) in
 array-write-met : tie.Need-array-write-met Inv-loop μ-loop
 array-write-met c = let k = known (c .before .before) in omega (arith, k .is, k .high)
 
-add-i : tie.Need-add-i Inv-loop μ-loop
-add-i c = search needs
-
-loop-less : tie.Need-loop-less Inv-loop μ-loop
-loop-less c = search needs
-
 loop-again : tie.Need-loop-again Inv-loop μ-loop
 loop-again c = let k = known (c .before .before) in (
   omega arith,
@@ -97,4 +79,7 @@ returns-2 : tie.Need-returns-2 Inv-loop μ-loop
 returns-2 c = let ls = c .before .before .args .literals .now in let e : c .before .loop .i ≡ length ls = omega arith in sym (c .before .loop .inv .3) ∙ ap {A = ℕ} (λ k. some-below k (negated-before ls)) e
 
 pub both-signs-spec : {M : Type 1} → statement M
-both-signs-spec = tie.close (tie.spec Inv-loop μ-loop loop-holds mul-l shared-slice-copy-out-l size-requires mark-requires array-read-before sub-if1 returns array-write-met add-i loop-less loop-again returns-2)
+both-signs-spec = tie.close
+    (tie.spec
+    Inv-loop μ-loop loop-holds (λ c. search needs) (λ c. search needs) (λ c κs. search needs) (λ c κs. search needs) array-read-before sub-if1 returns
+    array-write-met (λ c. search needs) (λ c. search needs) loop-again returns-2)

@@ -123,17 +123,8 @@ sentence-refusal-requires c κs =
     let cs = cols (c .before .before .before .before .before .before .before .before .before .before .before .before .before) in
     (k .high, parts-alike (c .before .before .before .before .before .before .before .before .loop .from) (c .before .before .before .before .before .before .before .before .loop .from + getD (cs .counts) (c .before .before .before .before .before .before .before .before .loop .s) 0 - c .before .before .before .before .before .before .before .before .loop .from) (cs .weights) (cs .literals) (k .alike))
 
-add-t39 : tie.Need-add-t39 Inv-loop μ-loop
-add-t39 c = search needs
-
 returns : tie.Need-returns Inv-loop μ-loop
 returns c = sym (c .before .before .before .before .before .before .before .before .before .before .loop .inv .2 ∙ from-here (c .before .before .before .before .before .before .before .before .before .before .before .before .before .before .before .args .lim) (c .before .before .before .before .before .before .before .before .before .before .before .before .before .before .before .args .n) (cols (c .before .before .before .before .before .before .before .before .before .before .before .before .before .before .before)) (c .before .before .before .before .before .before .before .before .before .before .loop .s) (c .before .before .before .before .before .before .before .before .before .loop-test .taken) (λ e. c .if1 .taken (told (c .before) ∙ e)) ∙ ap {A = ℕ} (λ k. answer k (c .before .before .before .before .before .before .before .before .before .before .loop .s + 1)) (sym (told (c .before))))
-
-add-s : tie.Need-add-s Inv-loop μ-loop
-add-s c = search needs
-
-loop-less : tie.Need-loop-less Inv-loop μ-loop
-loop-less c = search needs
 
 loop-again : tie.Need-loop-again Inv-loop μ-loop
 loop-again c = (
@@ -146,4 +137,10 @@ returns-2 : tie.Need-returns-2 Inv-loop μ-loop
 returns-2 c = sym (c .before .loop .inv .2 ∙ from-none (c .before .before .before .before .before .before .args .lim) (c .before .before .before .before .before .before .args .n) (cols (c .before .before .before .before .before .before)) (c .before .loop .s) (omega arith))
 
 pub first-refused-spec : {M : Type 1} → statement M
-first-refused-spec = tie.close (tie.spec Inv-loop μ-loop loop-holds mul-to shared-slice-read-to add-to mul-sentence-refusal shared-slice-read-sentence-refusal mul-sentence-refusal-2 shared-slice-read-sentence-refusal-2 mul-sentence-refusal-3 shared-slice-read-sentence-refusal-3 mul-sentence-refusal-4 shared-slice-copy-out-sentence-refusal mul-sentence-refusal-5 sub-sentence-refusal part-sentence-refusal-start part-sentence-refusal-end mul-sentence-refusal-6 sub-sentence-refusal-2 part-sentence-refusal-start-2 part-sentence-refusal-end-2 sentence-refusal-requires add-t39 returns add-s loop-less loop-again returns-2)
+first-refused-spec = tie.close
+    (tie.spec
+    Inv-loop μ-loop loop-holds mul-to shared-slice-read-to add-to mul-sentence-refusal shared-slice-read-sentence-refusal mul-sentence-refusal-2
+    shared-slice-read-sentence-refusal-2 mul-sentence-refusal-3 shared-slice-read-sentence-refusal-3 mul-sentence-refusal-4
+    shared-slice-copy-out-sentence-refusal mul-sentence-refusal-5 sub-sentence-refusal part-sentence-refusal-start part-sentence-refusal-end
+    mul-sentence-refusal-6 sub-sentence-refusal-2 part-sentence-refusal-start-2 part-sentence-refusal-end-2 sentence-refusal-requires
+    (λ c. search needs) returns (λ c. search needs) (λ c. search needs) loop-again returns-2)

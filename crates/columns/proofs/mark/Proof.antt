@@ -18,9 +18,6 @@ natural-sign : (l : ℤ) → is-negative l ≡ false → sign l ≡ 0
 natural-sign (pos a) e = refl
 natural-sign (negsuc a) e = cc
 
-negative-requires : tie.Need-negative-requires
-negative-requires c κs = search needs
-
 returns : tie.Need-returns
 returns c = ap (λ s. 1 + s) (sym (negative-sign (c .before .before .args .literal) (sym (of-element is-negative (c .before .before .args .literal) (c .before .before .fits .literal)) ∙ sym (c .before .negative .ensures) ∙ c .if1 .taken)))
 
@@ -28,4 +25,6 @@ returns-2 : tie.Need-returns-2
 returns-2 c = ap (λ s. 1 + s) (sym (natural-sign (c .before .before .args .literal) (sym (of-element is-negative (c .before .before .args .literal) (c .before .before .fits .literal)) ∙ sym (c .before .negative .ensures) ∙ c .if1 .left)))
 
 pub mark-spec : {M : Type 1} → statement M
-mark-spec = tie.close (tie.spec negative-requires returns returns-2)
+mark-spec = tie.close
+    (tie.spec
+    (λ c κs. search needs) returns returns-2)

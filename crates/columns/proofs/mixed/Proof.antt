@@ -16,17 +16,10 @@ unmixing (suc (suc zero)) a b = absurd (b refl)
 unmixing (suc (suc (suc zero))) a b = refl
 unmixing (suc (suc (suc (suc k)))) a b = refl
 
-returns : tie.Need-returns
-returns c = search needs
-
-returns-2 : tie.Need-returns-2
-returns-2 c = search needs
-
-both-signs-requires : tie.Need-both-signs-requires
-both-signs-requires c κs = search needs
-
 returns-3 : tie.Need-returns-3
 returns-3 c = rw (unmixing (c .before .before .before .args .kind) (c .before .before .if1 .left) (c .before .if2 .left)) (c .both-signs .ensures)
 
 pub mixed-spec : {M : Type 1} → statement M
-mixed-spec = tie.close (tie.spec returns returns-2 both-signs-requires returns-3)
+mixed-spec = tie.close
+    (tie.spec
+    (λ c. search needs) (λ c. search needs) (λ c κs. search needs) returns-3)

@@ -27,26 +27,11 @@ known c = told-atom (nth (c .before .before .before .before .args .literals .now
 loop-holds : tie.Need-loop-holds Inv-loop μ-loop
 loop-holds c = (omega arith, some-none _)
 
-mul-l : tie.Need-mul-l Inv-loop μ-loop
-mul-l c = search needs
-
-shared-slice-copy-out-l : tie.Need-shared-slice-copy-out-l Inv-loop μ-loop
-shared-slice-copy-out-l c = search needs
-
-size-requires : tie.Need-size-requires Inv-loop μ-loop
-size-requires c κs = search needs
-
 returns : tie.Need-returns Inv-loop μ-loop
 returns c = sym (some-here (c .before .before .before .before .loop .i) _ _ (omega arith) (no-atom-zero (c .before .before .before .before .before .args .n) (atom (nth (c .before .before .before .before .before .args .literals .now) (c .before .before .before .before .loop .i))) (sym (known (c .before)) ∙ c .if1 .taken)))
 
 returns-2 : tie.Need-returns-2 Inv-loop μ-loop
 returns-2 c = sym (some-here (c .before .before .before .before .before .loop .i) _ _ (omega arith) (no-atom-high (c .before .before .before .before .before .before .args .n) (atom (nth (c .before .before .before .before .before .before .args .literals .now) (c .before .before .before .before .before .loop .i))) (omega (arith, known (c .before .before)))))
-
-add-i : tie.Need-add-i Inv-loop μ-loop
-add-i c = search needs
-
-loop-less : tie.Need-loop-less Inv-loop μ-loop
-loop-less c = search needs
 
 loop-again : tie.Need-loop-again Inv-loop μ-loop
 loop-again c = (omega arith, some-more _ _ (c .before .before .before .before .before .loop .inv .1) (an-atom (c .before .before .before .before .before .before .args .n) (atom (nth (c .before .before .before .before .before .before .args .literals .now) (c .before .before .before .before .before .loop .i))) (λ e. c .before .if1 .left (known (c .before .before) ∙ e)) (omega (arith, known (c .before .before)))))
@@ -55,4 +40,7 @@ returns-3 : tie.Need-returns-3 Inv-loop μ-loop
 returns-3 c = let e : c .before .loop .i ≡ length (c .before .before .args .literals .now) = omega arith in sym (c .before .loop .inv .1) ∙ ap {A = ℕ} (λ k. some-below k (λ j. no-atom (c .before .before .args .n) (atom (nth (c .before .before .args .literals .now) j)))) e
 
 pub no-literal-spec : {M : Type 1} → statement M
-no-literal-spec = tie.close (tie.spec Inv-loop μ-loop loop-holds mul-l shared-slice-copy-out-l size-requires returns returns-2 add-i loop-less loop-again returns-3)
+no-literal-spec = tie.close
+    (tie.spec
+    Inv-loop μ-loop loop-holds (λ c. search needs) (λ c. search needs) (λ c κs. search needs) returns returns-2 (λ c. search needs)
+    (λ c. search needs) loop-again returns-3)

@@ -7,18 +7,14 @@ use Rattle.columns.proofs.Clauses.{of-element}
 use Rattle.columns.proofs.out_of_range.Statement.{statement}
 use Rattle.columns.proofs.out_of_range.Tie as tie
 
-unfit-requires : tie.Need-unfit-requires
-unfit-requires c κs = search needs
-
 returns : tie.Need-returns
 returns c = rw (sym (c .before .unfit .ensures) ∙ c .if1 .taken)
-
-bound-ok-requires : tie.Need-bound-ok-requires
-bound-ok-requires c κs = search needs
 
 returns-2 : tie.Need-returns-2
 returns-2 c = let t : c .bound-ok .result ≡ bound-fits (c .before .before .before .args .bound) = c .bound-ok .ensures ∙ of-element bound-fits (c .before .before .before .args .bound) (c .before .before .before .fits .bound) in
     rw (sym (c .before .before .unfit .ensures) ∙ c .before .if1 .left) (ap not t)
 
 pub out-of-range-spec : {M : Type 1} → statement M
-out-of-range-spec = tie.close (tie.spec unfit-requires returns bound-ok-requires returns-2)
+out-of-range-spec = tie.close
+    (tie.spec
+    (λ c κs. search needs) returns (λ c κs. search needs) returns-2)

@@ -28,23 +28,8 @@ known c = told-atom (nth (c .before .before .before .before .args .literals .now
 loop-holds : tie.Need-loop-holds Inv-loop μ-loop
 loop-holds c = (omega arith, some-none _)
 
-mul-l : tie.Need-mul-l Inv-loop μ-loop
-mul-l c = search needs
-
-shared-slice-copy-out-l : tie.Need-shared-slice-copy-out-l Inv-loop μ-loop
-shared-slice-copy-out-l c = search needs
-
-size-requires : tie.Need-size-requires Inv-loop μ-loop
-size-requires c κs = search needs
-
 returns : tie.Need-returns Inv-loop μ-loop
 returns c = sym (some-here (c .before .before .before .before .loop .i) _ _ (omega arith) (eq-eqb (atom (nth (c .before .before .before .before .before .args .literals .now) (c .before .before .before .before .loop .i))) (c .before .before .before .before .before .args .head) (sym (known (c .before)) ∙ c .if1 .taken)))
-
-add-i : tie.Need-add-i Inv-loop μ-loop
-add-i c = search needs
-
-loop-less : tie.Need-loop-less Inv-loop μ-loop
-loop-less c = search needs
 
 loop-again : tie.Need-loop-again Inv-loop μ-loop
 loop-again c = (omega arith, some-more _ _ (c .before .before .before .before .loop .inv .1) (ne-eqb (atom (nth (c .before .before .before .before .before .args .literals .now) (c .before .before .before .before .loop .i))) (c .before .before .before .before .before .args .head) (λ e. c .if1 .left (known (c .before) ∙ e))))
@@ -53,4 +38,7 @@ returns-2 : tie.Need-returns-2 Inv-loop μ-loop
 returns-2 c = let e : c .before .loop .i ≡ length (c .before .before .args .literals .now) = omega arith in sym (c .before .loop .inv .1) ∙ ap {A = ℕ} (λ k. some-below k (λ j. eqb (atom (nth (c .before .before .args .literals .now) j)) (c .before .before .args .head))) e
 
 pub own-head-spec : {M : Type 1} → statement M
-own-head-spec = tie.close (tie.spec Inv-loop μ-loop loop-holds mul-l shared-slice-copy-out-l size-requires returns add-i loop-less loop-again returns-2)
+own-head-spec = tie.close
+    (tie.spec
+    Inv-loop μ-loop loop-holds (λ c. search needs) (λ c. search needs) (λ c κs. search needs) returns (λ c. search needs) (λ c. search needs)
+    loop-again returns-2)

@@ -37,20 +37,11 @@ small c =
       few-entries = omega (arith, k .few-entries, c .before .before .before .before .before .before .before .before .before .before .pre .entries);
     }
 
-past-limits-requires : tie.Need-past-limits-requires
-past-limits-requires c κs = search needs
-
 returns : tie.Need-returns
 returns c = answer-1 (c .before .before .before .before .before .before .args .lim) (c .before .before .before .before .before .before .args .words) (c .before .before .before .before .before .before .args .atoms) (cols (c .before .before .before .before .before .before)) (shape-limits (c .before .before .before .before .before .before .args .lim) (c .before .before .before .before .before .before .args .atoms) (cols (c .before .before .before .before .before .before)) (sym (c .before .past-limits .ensures) ∙ c .if1 .taken))
 
-unequal-requires : tie.Need-unequal-requires
-unequal-requires c κs = search needs
-
 returns-2 : tie.Need-returns-2
 returns-2 c = answer-1 (c .before .before .before .before .before .before .before .before .args .lim) (c .before .before .before .before .before .before .before .before .args .words) (c .before .before .before .before .before .before .before .before .args .atoms) (cols (c .before .before .before .before .before .before .before .before)) (shape-unequal (c .before .before .before .before .before .before .before .before .args .lim) (c .before .before .before .before .before .before .before .before .args .atoms) (cols (c .before .before .before .before .before .before .before .before)) (sym (c .before .unequal .ensures) ∙ c .if2 .taken))
-
-adds-up-requires : tie.Need-adds-up-requires
-adds-up-requires c κs = search needs
 
 returns-3 : tie.Need-returns-3
 returns-3 c = answer-1 (c .before .before .before .before .before .before .before .before .before .before .args .lim) (c .before .before .before .before .before .before .before .before .before .before .args .words) (c .before .before .before .before .before .before .before .before .before .before .args .atoms) (cols (c .before .before .before .before .before .before .before .before .before .before)) (shape-sum (c .before .before .before .before .before .before .before .before .before .before .args .lim) (c .before .before .before .before .before .before .before .before .before .before .args .atoms) (cols (c .before .before .before .before .before .before .before .before .before .before)) (sym (c .before .adds-up .ensures) ∙ not-true _ (c .if3 .taken)))
@@ -80,4 +71,7 @@ returns-5 : tie.Need-returns-5
 returns-5 c = c .first-refused .ensures ∙ answer-rest (c .before .before .before .before .before .before .before .before .before .before .before .before .args .lim) (c .before .before .before .before .before .before .before .before .before .before .before .before .args .words) (c .before .before .before .before .before .before .before .before .before .before .before .before .args .atoms) (cols (c .before .before .before .before .before .before .before .before .before .before .before .before)) (fine (c .before .before)) (c .before .if4 .left)
 
 pub refusal-spec : {M : Type 1} → statement M
-refusal-spec = tie.close (tie.spec past-limits-requires returns unequal-requires returns-2 adds-up-requires returns-3 mul-if4 mul-if4-2 add-if4 mul-if4-3 add-if4-2 returns-4 first-refused-requires returns-5)
+refusal-spec = tie.close
+    (tie.spec
+    (λ c κs. search needs) returns (λ c κs. search needs) returns-2 (λ c κs. search needs) returns-3 mul-if4 mul-if4-2 add-if4 mul-if4-3 add-if4-2
+    returns-4 first-refused-requires returns-5)

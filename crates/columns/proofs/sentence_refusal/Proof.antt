@@ -53,26 +53,14 @@ weights-fit c = left-false (unfit-weights (c .before .before .before .before .be
 one-fits : (c : tie.Then6) → unfit-weights 1 (c .before .before .before .before .before .before .before .before .before .before .before .args .weights .now) ≡ false
 one-fits c = subst (λ (k : ℕ). unfit-weights k (c .before .before .before .before .before .before .before .before .before .before .before .args .weights .now) ≡ false) (c .if6 .taken) (weights-fit (c .before .before .before .before .before))
 
-unknown-requires : tie.Need-unknown-requires
-unknown-requires c κs = search needs
-
 returns : tie.Need-returns
 returns c = code-3 (c .before .before .args .lim) (c .before .before .args .n) (sentence (c .before .before)) (unknown-told (c .before) ∙ c .if1 .taken)
-
-strange-requires : tie.Need-strange-requires
-strange-requires c κs = search needs
 
 returns-2 : tie.Need-returns-2
 returns-2 c = code-4 (c .before .before .before .before .args .lim) (c .before .before .before .before .args .n) (sentence (c .before .before .before .before)) (unknown-told (c .before .before .before) ∙ c .before .before .if1 .left) (strange-told (c .before) ∙ c .if2 .taken)
 
-out-of-range-requires : tie.Need-out-of-range-requires
-out-of-range-requires c κs = search needs
-
 returns-3 : tie.Need-returns-3
 returns-3 c = code-5 (c .before .before .before .before .before .before .args .lim) (c .before .before .before .before .before .before .args .n) (sentence (c .before .before .before .before .before .before)) (unknown-told (c .before .before .before .before .before) ∙ c .before .before .before .before .if1 .left) (strange-told (c .before .before .before) ∙ c .before .before .if2 .left) (range-told (c .before) ∙ c .if3 .taken)
-
-own-head-requires : tie.Need-own-head-requires
-own-head-requires c κs = search needs
 
 returns-4 : tie.Need-returns-4
 returns-4 c = code-6 (c .before .before .before .before .before .before .before .before .args .lim) (c .before .before .before .before .before .before .before .before .args .n) (sentence (c .before .before .before .before .before .before .before .before)) (unknown-told (c .before .before .before .before .before .before .before) ∙ c .before .before .before .before .before .before .if1 .left) (strange-told (c .before .before .before .before .before) ∙ c .before .before .before .before .if2 .left) (range-told (c .before .before .before) ∙ c .before .before .if3 .left) (head-told (c .before) ∙ c .if4 .taken)
@@ -110,4 +98,7 @@ returns-8 c = code-0 (c .before .before .before .before .before .before .before 
 })
 
 pub sentence-refusal-spec : {M : Type 1} → statement M
-sentence-refusal-spec = tie.close (tie.spec unknown-requires returns strange-requires returns-2 out-of-range-requires returns-3 own-head-requires returns-4 mixed-requires returns-5 too-great-requires returns-6 returns-7 returns-8)
+sentence-refusal-spec = tie.close
+    (tie.spec
+    (λ c κs. search needs) returns (λ c κs. search needs) returns-2 (λ c κs. search needs) returns-3 (λ c κs. search needs) returns-4 mixed-requires
+    returns-5 too-great-requires returns-6 returns-7 returns-8)

@@ -50,15 +50,6 @@ known c =
 loop-holds : tie.Need-loop-holds Inv-loop μ-loop
 loop-holds c = (omega arith, sym (product-none _), omega arith)
 
-mul-weight : tie.Need-mul-weight Inv-loop μ-loop
-mul-weight c = search needs
-
-shared-slice-copy-out-weight : tie.Need-shared-slice-copy-out-weight Inv-loop μ-loop
-shared-slice-copy-out-weight c = search needs
-
-size-requires : tie.Need-size-requires Inv-loop μ-loop
-size-requires c κs = search needs
-
 div-if1 : tie.Need-div-if1 Inv-loop μ-loop
 div-if1 c = known c .positive
 
@@ -71,12 +62,6 @@ returns c = let k = known (c .before) in
 mul-product : tie.Need-mul-product Inv-loop μ-loop
 mul-product c = let h : c .before .before .before .before .loop .product * c .before .size .result ≤ 1000000000000000000 = le-div-iff-mul-le (known (c .before) .positive) .0 (c .if1 .left) in omega arith
 
-add-i : tie.Need-add-i Inv-loop μ-loop
-add-i c = search needs
-
-loop-less : tie.Need-loop-less Inv-loop μ-loop
-loop-less c = search needs
-
 loop-again : tie.Need-loop-again Inv-loop μ-loop
 loop-again c = let k = known (c .before) in (omega arith, k .next, le-div-iff-mul-le (k .positive) .0 (c .if1 .left))
 
@@ -86,4 +71,7 @@ returns-2 c = let ws = c .before .before .args .weights .now in
     sym (le-ltb 1000000000000000000 (product-below (length ws) (λ k. natAbs (nth ws k))) (omega (arith, ap {A = ℕ} (λ n. product-below n (λ k. natAbs (nth ws k))) e)))
 
 pub too-great-spec : {M : Type 1} → statement M
-too-great-spec = tie.close (tie.spec Inv-loop μ-loop loop-holds mul-weight shared-slice-copy-out-weight size-requires div-if1 returns mul-product add-i loop-less loop-again returns-2)
+too-great-spec = tie.close
+    (tie.spec
+    Inv-loop μ-loop loop-holds (λ c. search needs) (λ c. search needs) (λ c κs. search needs) div-if1 returns mul-product (λ c. search needs)
+    (λ c. search needs) loop-again returns-2)

@@ -28,4 +28,6 @@ returns-2 c =
     rw t
 
 pub within-spec : {M : Type 1} → statement M
-within-spec = tie.close (tie.spec returns returns-2)
+within-spec = tie.close
+    (tie.spec
+    returns returns-2)

@@ -13,8 +13,4 @@ pub answer-done-spec : {M : Type 1} → statement M
 answer-done-spec =
     tie.close
     (tie.spec
-    (λ c. search needs)
-    (λ c κs. search needs)
-    (λ c. search needs)
-    write-requires
-    (λ c. search needs))
+    (λ c. search needs) (λ c κs. search needs) (λ c. search needs) write-requires (λ c. search needs))

@@ -12,8 +12,4 @@ pub answer-plan-spec : {M : Type 1} → statement M
 answer-plan-spec =
     tie.close
     (tie.spec
-    (λ c. search needs)
-    (λ c κs. search needs)
-    (λ c. search needs)
-    write-requires
-    (λ c. search needs))
+    (λ c. search needs) (λ c κs. search needs) (λ c. search needs) write-requires (λ c. search needs))

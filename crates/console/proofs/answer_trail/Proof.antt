@@ -14,8 +14,4 @@ pub answer-trail-spec : {M : Type 1} → statement M
 answer-trail-spec =
     tie.close
     (tie.spec
-    (λ c. search needs)
-    (λ c κs. search needs)
-    (λ c. search needs)
-    write-requires
-    (λ c. search needs))
+    (λ c. search needs) (λ c κs. search needs) (λ c. search needs) write-requires (λ c. search needs))

@@ -14,10 +14,4 @@ pub wrong-spec : {M : Type 1} → statement M
 wrong-spec =
     tie.close
     (tie.spec
-    (λ c. search needs)
-    (λ c. search needs)
-    (λ c κs. search needs)
-    (λ c. search needs)
-    write-requires
-    (λ c κs. search needs)
-    (λ c. search needs))
+    (λ c. search needs) (λ c. search needs) (λ c κs. search needs) (λ c. search needs) write-requires (λ c κs. search needs) (λ c. search needs))

@@ -18,26 +18,14 @@ abbrev μ-loop : tie.MeasureT-loop
 loop-holds : tie.Need-loop-holds Inv-loop μ-loop
 loop-holds c = none-counted (c .before .args .line .now) (c .before .args .at) (c .before .pre)
 
-take-entry-requires : tie.Need-take-entry-requires Inv-loop μ-loop
-take-entry-requires c κs = c .loop .inv .fits
-
-enum-told : tie.Need-enum-told Inv-loop μ-loop
-enum-told c = search needs
-
 returns : tie.Need-returns Inv-loop μ-loop
 returns c = let s = c .before .before .before .before .before in
     sym (all-counted (c .before .before .before .loop .inv) (nothing-found (s .args .line .now) (c .before .before .before .loop .from) (c .before
     .before .take-entry .ensures) (c .enum-told .given .1)))
 
-enum-told-2 : tie.Need-enum-told-2 Inv-loop μ-loop
-enum-told-2 c = search needs
-
 returns-2 : tie.Need-returns-2 Inv-loop μ-loop
 returns-2 c = sym (not-counted (c .before .before .before .loop .inv) (wrong-found (c .before .before .take-entry .ensures) (c .enum-told2 .given
     .1)))
-
-enum-known-next : tie.Need-enum-known-next Inv-loop μ-loop
-enum-known-next c = search needs
 
 add-n : tie.Need-add-n Inv-loop μ-loop
 add-n c = let p = c .before .before .before .before in let i = p .loop .inv in
@@ -54,15 +42,5 @@ pub count-entries-spec : {M : Type 1} → statement M
 count-entries-spec =
     tie.close
     (tie.spec
-    Inv-loop
-    μ-loop
-    loop-holds
-    take-entry-requires
-    enum-told
-    returns
-    enum-told-2
-    returns-2
-    enum-known-next
-    add-n
-    loop-less
-    loop-again)
+    Inv-loop μ-loop loop-holds (λ c κs. c .loop .inv .fits) (λ c. search needs) returns (λ c. search needs) returns-2 (λ c. search needs) add-n
+    loop-less loop-again)

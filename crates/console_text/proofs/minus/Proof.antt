@@ -6,15 +6,6 @@ use Rattle.console_text.proofs.Numbers.{minus-large, minus-zero, opposi
 use Rattle.console_text.proofs.minus.Statement.{statement}
 use Rattle.console_text.proofs.minus.Tie as tie
 
-enum-known-x : tie.Need-enum-known-x
-enum-known-x c = search needs
-
-enum-told : tie.Need-enum-told
-enum-told c = search needs
-
-returns : tie.Need-returns
-returns c = search needs
-
 returns-2 : tie.Need-returns-2
 returns-2 c = let g = c .before .before .x .given in
     sym (minus-large _ (g .0 .0) (g .1) (omega arith))
@@ -22,12 +13,6 @@ returns-2 c = let g = c .before .before .x .given in
 returns-3 : tie.Need-returns-3
 returns-3 c = let g = c .before .before .before .x .given in
     sym (minus-zero _ (g .0 .0) (g .1) (omega arith))
-
-sub-t4 : tie.Need-sub-t4
-sub-t4 c = search needs
-
-cast-t5 : tie.Need-cast-t5
-cast-t5 c = search needs
 
 sub-t6 : tie.Need-sub-t6
 sub-t6 c = let g = c .before .before .before .x .given in
@@ -40,4 +25,5 @@ returns-4 c = let g = c .before .before .before .x .given in
 pub minus-spec : {M : Type 1} → statement M
 minus-spec =
     tie.close
-    (tie.spec enum-known-x enum-told returns returns-2 returns-3 sub-t4 cast-t5 sub-t6 returns-4)
+    (tie.spec
+    (λ c. search needs) (λ c. search needs) (λ c. search needs) returns-2 returns-3 (λ c. search needs) (λ c. search needs) sub-t6 returns-4)

@@ -6,9 +6,6 @@ use Rattle.console_text.proofs.Words.{words-behind}
 use Rattle.console_text.proofs.next_word.Statement.{statement}
 use Rattle.console_text.proofs.next_word.Tie as tie
 
-skip-blanks-requires : tie.Need-skip-blanks-requires
-skip-blanks-requires c κs = search needs
-
 returns : tie.Need-returns
 returns c = c .before .skip-blanks .ensures .words-are
     ∙ words-behind (c .before .before .before .args .line .now) (c .before .skip-blanks .result) (omega arith)
@@ -27,4 +24,6 @@ returns-2 c = let s = c .before .before .skip-blanks .ensures in let w = c .word
     record { begins = s .begins; some = w .some; fits = w .fits; words-are = s .words-are ∙ w .words-are }
 
 pub next-word-spec : {M : Type 1} → statement M
-next-word-spec = tie.close (tie.spec skip-blanks-requires returns word-end-requires returns-2)
+next-word-spec = tie.close
+    (tie.spec
+    (λ c κs. search needs) returns word-end-requires returns-2)

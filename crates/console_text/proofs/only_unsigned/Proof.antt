@@ -12,27 +12,12 @@ first : (c : tie.After-known-told) →
     (c .before .from .given .0 .0) (c .before .from .given .0 .1 .0)
 first c = found (c .before .before .before .next-word .ensures) (c .before .from .given .1)
 
-next-word-requires : tie.Need-next-word-requires
-next-word-requires c κs = search needs
-
-enum-known-from : tie.Need-enum-known-from
-enum-known-from c = search needs
-
-enum-told : tie.Need-enum-told
-enum-told c = search needs
-
 returns : tie.Need-returns
 returns c = let s = c .before .before .before .before in
     sym (ap only-unsigned (ended (s .args .line .now) (s .args .at) (c .before .before .next-word .ensures) (c .enum-told .given .1)))
 
 next-word-requires-2 : tie.Need-next-word-requires-2
 next-word-requires-2 c κs = let w = first c in search needs
-
-enum-told-2 : tie.Need-enum-told-2
-enum-told-2 c = search needs
-
-enum-told-3 : tie.Need-enum-told-3
-enum-told-3 c = search needs
 
 returns-2 : tie.Need-returns-2
 returns-2 c = let w = first (c .before .before .before) in
@@ -47,9 +32,6 @@ part-read-unsigned-start c = let w = first (c .before .before .before) in search
 part-read-unsigned-end : tie.Need-part-read-unsigned-end
 part-read-unsigned-end c = let w = first (c .before .before .before) in search needs
 
-read-unsigned-requires : tie.Need-read-unsigned-requires
-read-unsigned-requires c κs = search needs
-
 returns-3 : tie.Need-returns-3
 returns-3 c = let nw2 = c .before .before .before .before in let k5 = nw2 .before in let from = k5 .before in
     let s = from .before .before .before .before in
@@ -61,16 +43,5 @@ pub only-unsigned-spec : {M : Type 1} → statement M
 only-unsigned-spec =
     tie.close
     (tie.spec
-    next-word-requires
-    enum-known-from
-    enum-told
-    returns
-    next-word-requires-2
-    enum-told-2
-    enum-told-3
-    returns-2
-    sub-read-unsigned
-    part-read-unsigned-start
-    part-read-unsigned-end
-    read-unsigned-requires
-    returns-3)
+    (λ c κs. search needs) (λ c. search needs) (λ c. search needs) returns next-word-requires-2 (λ c. search needs) (λ c. search needs) returns-2
+    sub-read-unsigned part-read-unsigned-start part-read-unsigned-end (λ c κs. search needs) returns-3)

@@ -12,15 +12,6 @@ first : (c : tie.After-known-told) →
     WordAt (c .before .before .before .before .before .args .line .now) 0 (c .before .from .given .0 .0) (c .before .from .given .0 .1 .0)
 first c = found (c .before .before .before .next-word .ensures) (c .before .from .given .1)
 
-next-word-requires : tie.Need-next-word-requires
-next-word-requires c κs = search needs
-
-enum-known-from : tie.Need-enum-known-from
-enum-known-from c = search needs
-
-enum-told : tie.Need-enum-told
-enum-told c = search needs
-
 returns : tie.Need-returns
 unfolding command-of
 returns c = let s = c .before .before .before .before in
@@ -42,9 +33,6 @@ part-read-name-start c = let w = first (c .before .before) in search needs
 part-read-name-end : tie.Need-part-read-name-end
 part-read-name-end c = let w = first (c .before .before) in search needs
 
-read-name-requires : tie.Need-read-name-requires
-read-name-requires c κs = search needs
-
 by-name-requires : tie.Need-by-name-requires
 by-name-requires c κs = let k4 = c .before .before .before .before in
     let w = first k4 in search needs
@@ -62,15 +50,5 @@ pub parse-spec : {M : Type 1} → statement M
 parse-spec =
     tie.close
     (tie.spec
-    next-word-requires
-    enum-known-from
-    enum-told
-    returns
-    shared-slice-read-if1
-    returns-2
-    sub-read-name
-    part-read-name-start
-    part-read-name-end
-    read-name-requires
-    by-name-requires
-    returns-3)
+    (λ c κs. search needs) (λ c. search needs) (λ c. search needs) returns shared-slice-read-if1 returns-2 sub-read-name part-read-name-start
+    part-read-name-end (λ c κs. search needs) by-name-requires returns-3)

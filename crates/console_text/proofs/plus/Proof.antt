@@ -6,25 +6,15 @@ use Rattle.console_text.proofs.Numbers.{plus-large, plus-fits}
 use Rattle.console_text.proofs.plus.Statement.{statement}
 use Rattle.console_text.proofs.plus.Tie as tie
 
-enum-known-x : tie.Need-enum-known-x
-enum-known-x c = search needs
-
-enum-told : tie.Need-enum-told
-enum-told c = search needs
-
-returns : tie.Need-returns
-returns c = search needs
-
 returns-2 : tie.Need-returns-2
 returns-2 c = let g = c .before .before .x .given in
     sym (plus-large _ (g .0 .0) (g .1) (omega arith))
-
-cast-t4 : tie.Need-cast-t4
-cast-t4 c = search needs
 
 returns-3 : tie.Need-returns-3
 returns-3 c = let g = c .before .before .x .given in
     sym (plus-fits _ (g .0 .0) (g .1) (omega arith))
 
 pub plus-spec : {M : Type 1} → statement M
-plus-spec = tie.close (tie.spec enum-known-x enum-told returns returns-2 cast-t4 returns-3)
+plus-spec = tie.close
+    (tie.spec
+    (λ c. search needs) (λ c. search needs) (λ c. search needs) returns-2 (λ c. search needs) returns-3)

@@ -18,21 +18,9 @@ Inv-loop line weights₀ literals₀ at most k₀ from₀ weights literals k fro
 abbrev μ-loop : tie.MeasureT-loop
 μ-loop line weights₀ literals₀ at most k₀ from₀ weights literals k from = length line - from
 
-larger-requires : tie.Need-larger-requires Inv-loop μ-loop
-larger-requires c κs = search needs
-
-skip-five-requires : tie.Need-skip-five-requires Inv-loop μ-loop
-skip-five-requires c κs = search needs
-
 loop-holds : tie.Need-loop-holds Inv-loop μ-loop
 loop-holds c = let e = c .skip-five .ensures .1 in
     record { fits = c .skip-five .ensures .0; weights-same = refl; literals-same = refl; weights-are = rw e; literals-are = rw e }
-
-take-entry-requires : tie.Need-take-entry-requires Inv-loop μ-loop
-take-entry-requires c κs = c .before .loop .inv .fits
-
-enum-told : tie.Need-enum-told Inv-loop μ-loop
-enum-told c = search needs
 
 same-length : tie.Need-same-length Inv-loop μ-loop
 same-length c = let p = c .before .before .before .before in
@@ -48,9 +36,6 @@ returns c = let p = c .before .before .before .before in let s = p .before .befo
     all-stored (p .loop .inv) (ap entries-of (nothing-found (s .args .line .now) (p .loop .from) (c .before .before .take-entry .ensures) (c
     .enum-told .given .1)))
 
-enum-told-2 : tie.Need-enum-told-2 Inv-loop μ-loop
-enum-told-2 c = search needs
-
 same-length-3 : tie.Need-same-length-3 Inv-loop μ-loop
 same-length-3 c = let p = c .before .before .before .before in
     p .loop .inv .weights-same
@@ -62,18 +47,6 @@ same-length-4 c = let p = c .before .before .before .before in
 returns-2 : tie.Need-returns-2 Inv-loop μ-loop
 returns-2 c = let p = c .before .before .before .before in
     all-stored (p .loop .inv) (wrong-found (c .before .before .take-entry .ensures) (c .enum-told2 .given .1) .entries-are)
-
-enum-known-next : tie.Need-enum-known-next Inv-loop μ-loop
-enum-known-next c = search needs
-
-store-requires : tie.Need-store-requires Inv-loop μ-loop
-store-requires c κs = search needs
-
-store-requires-2 : tie.Need-store-requires-2 Inv-loop μ-loop
-store-requires-2 c κs = search needs
-
-add-k : tie.Need-add-k Inv-loop μ-loop
-add-k c = omega arith
 
 loop-less : tie.Need-loop-less Inv-loop μ-loop
 loop-less c = let nx = c .before .before .before .before .before .before .before in let te = nx .before .before in
@@ -89,12 +62,6 @@ loop-again c = let sx = c .before .before .before .before in let kt = sx .before
       toZ-ofZ w64 _ (record { sfits = t .1 .0 .1 }),
     ) (one-stored (p .loop .inv) (entry-found (te .take-entry .ensures) (nx .next .given .1)))
 
-same-length-5 : tie.Need-same-length-5 Inv-loop μ-loop
-same-length-5 c = c .before .loop .inv .weights-same
-
-same-length-6 : tie.Need-same-length-6 Inv-loop μ-loop
-same-length-6 c = c .before .loop .inv .literals-same
-
 returns-3 : tie.Need-returns-3 Inv-loop μ-loop
 returns-3 c = full (c .before .loop .inv) (omega (
   arith,
@@ -106,26 +73,6 @@ pub read-entries-spec : {M : Type 1} → statement M
 read-entries-spec =
     tie.close
     (tie.spec
-    Inv-loop
-    μ-loop
-    larger-requires
-    skip-five-requires
-    loop-holds
-    take-entry-requires
-    enum-told
-    same-length
-    same-length-2
-    returns
-    enum-told-2
-    same-length-3
-    same-length-4
-    returns-2
-    enum-known-next
-    store-requires
-    store-requires-2
-    add-k
-    loop-less
-    loop-again
-    same-length-5
-    same-length-6
-    returns-3)
+    Inv-loop μ-loop (λ c κs. search needs) (λ c κs. search needs) loop-holds (λ c κs. c .before .loop .inv .fits) (λ c. search needs) same-length
+    same-length-2 returns (λ c. search needs) same-length-3 same-length-4 returns-2 (λ c. search needs) (λ c κs. search needs) (λ c κs. search needs)
+    (λ c. omega arith) loop-less loop-again (λ c. c .before .loop .inv .weights-same) (λ c. c .before .loop .inv .literals-same) returns-3)

@@ -5,32 +5,14 @@ use Rattle.console_text.specs.Command.{kind-of}
 use Rattle.console_text.proofs.read_kind.Statement.{statement}
 use Rattle.console_text.proofs.read_kind.Tie as tie
 
-slice-aggregate-is-same : tie.Need-slice-aggregate-is-same
-slice-aggregate-is-same c = search needs
-
-is-same-requires : tie.Need-is-same-requires
-is-same-requires c κs = search needs
-
 returns : tie.Need-returns
 unfolding kind-of
 returns c = rw (sym (c .before .is-same .ensures) ∙ c .if1 .taken)
-
-slice-aggregate-is-same-2 : tie.Need-slice-aggregate-is-same-2
-slice-aggregate-is-same-2 c = search needs
-
-is-same-requires-2 : tie.Need-is-same-requires-2
-is-same-requires-2 c κs = search needs
 
 returns-2 : tie.Need-returns-2
 unfolding kind-of
 returns-2 c = let is = c .before .before .before .before in
     rw (sym (is .is-same .ensures) ∙ c .before .before .before .if1 .left, sym (c .before .is-same2 .ensures) ∙ c .if2 .taken)
-
-slice-aggregate-is-same-3 : tie.Need-slice-aggregate-is-same-3
-slice-aggregate-is-same-3 c = search needs
-
-is-same-requires-3 : tie.Need-is-same-requires-3
-is-same-requires-3 c κs = search needs
 
 returns-3 : tie.Need-returns-3
 unfolding kind-of
@@ -40,12 +22,6 @@ returns-3 c = let is2 = c .before .before .before .before in let i1 = is2 .befor
       sym (is2 .is-same2 .ensures) ∙ c .before .before .before .if2 .left,
       sym (c .before .is-same3 .ensures) ∙ c .if3 .taken,
     )
-
-slice-aggregate-is-same-4 : tie.Need-slice-aggregate-is-same-4
-slice-aggregate-is-same-4 c = search needs
-
-is-same-requires-4 : tie.Need-is-same-requires-4
-is-same-requires-4 c κs = search needs
 
 returns-4 : tie.Need-returns-4
 unfolding kind-of
@@ -57,12 +33,6 @@ returns-4 c = let is3 = c .before .before .before .before in let i2 = is3 .befor
       sym (is3 .is-same3 .ensures) ∙ c .before .before .before .if3 .left,
       sym (c .before .is-same4 .ensures) ∙ c .if4 .taken,
     )
-
-slice-aggregate-is-same-5 : tie.Need-slice-aggregate-is-same-5
-slice-aggregate-is-same-5 c = search needs
-
-is-same-requires-5 : tie.Need-is-same-requires-5
-is-same-requires-5 c κs = search needs
 
 returns-5 : tie.Need-returns-5
 unfolding kind-of
@@ -92,19 +62,5 @@ pub read-kind-spec : {M : Type 1} → statement M
 read-kind-spec =
     tie.close
     (tie.spec
-    slice-aggregate-is-same
-    is-same-requires
-    returns
-    slice-aggregate-is-same-2
-    is-same-requires-2
-    returns-2
-    slice-aggregate-is-same-3
-    is-same-requires-3
-    returns-3
-    slice-aggregate-is-same-4
-    is-same-requires-4
-    returns-4
-    slice-aggregate-is-same-5
-    is-same-requires-5
-    returns-5
-    returns-6)
+    (λ c. search needs) (λ c κs. search needs) returns (λ c. search needs) (λ c κs. search needs) returns-2 (λ c. search needs) (λ c κs. search needs)
+    returns-3 (λ c. search needs) (λ c κs. search needs) returns-4 (λ c. search needs) (λ c κs. search needs) returns-5 returns-6)

@@ -80,18 +80,12 @@ past-10 c = past-9 (c .before .before .before) ∙ fails (name.Literal Origin) (
 past-11 : (c : tie.Else11) → name-of (word-11 c) ≡ name.Unknown
 past-11 c = past-10 (c .before .before .before) ∙ fails (name.Bare Trail) name.Unknown (sym (c .before .is-same11 .ensures) ∙ c .if11 .left)
 
-slice-aggregate-is-same : tie.Need-slice-aggregate-is-same
-slice-aggregate-is-same c = refl
-
 is-same-requires : tie.Need-is-same-requires
 is-same-requires c κs = tt
 
 returns : tie.Need-returns
 unfolding name-of
 returns c = sym (holds name.Plan (from-rule (c .before .before .before .before .args .word .now)) (sym (c .before .is-same .ensures) ∙ c .if1 .taken))
-
-slice-aggregate-is-same-2 : tie.Need-slice-aggregate-is-same-2
-slice-aggregate-is-same-2 c = refl
 
 is-same-requires-2 : tie.Need-is-same-requires-2
 is-same-requires-2 c κs = tt
@@ -100,18 +94,12 @@ returns-2 : tie.Need-returns-2
 returns-2 c = let e = c .before .before .before in
     sym (past-1 e ∙ holds name.Rule (from-give (word-1 e)) (sym (c .before .is-same2 .ensures) ∙ c .if2 .taken))
 
-slice-aggregate-is-same-3 : tie.Need-slice-aggregate-is-same-3
-slice-aggregate-is-same-3 c = refl
-
 is-same-requires-3 : tie.Need-is-same-requires-3
 is-same-requires-3 c κs = tt
 
 returns-3 : tie.Need-returns-3
 returns-3 c = let e = c .before .before .before in
     sym (past-2 e ∙ holds (name.Literal Give) (from-open (word-2 e)) (sym (c .before .is-same3 .ensures) ∙ c .if3 .taken))
-
-slice-aggregate-is-same-4 : tie.Need-slice-aggregate-is-same-4
-slice-aggregate-is-same-4 c = refl
 
 is-same-requires-4 : tie.Need-is-same-requires-4
 is-same-requires-4 c κs = tt
@@ -120,18 +108,12 @@ returns-4 : tie.Need-returns-4
 returns-4 c = let e = c .before .before .before in
     sym (past-3 e ∙ holds (name.Bare Open) (from-propagate (word-3 e)) (sym (c .before .is-same4 .ensures) ∙ c .if4 .taken))
 
-slice-aggregate-is-same-5 : tie.Need-slice-aggregate-is-same-5
-slice-aggregate-is-same-5 c = refl
-
 is-same-requires-5 : tie.Need-is-same-requires-5
 is-same-requires-5 c κs = tt
 
 returns-5 : tie.Need-returns-5
 returns-5 c = let e = c .before .before .before in
     sym (past-4 e ∙ holds (name.Bare Propagate) (from-back (word-4 e)) (sym (c .before .is-same5 .ensures) ∙ c .if5 .taken))
-
-slice-aggregate-is-same-6 : tie.Need-slice-aggregate-is-same-6
-slice-aggregate-is-same-6 c = refl
 
 is-same-requires-6 : tie.Need-is-same-requires-6
 is-same-requires-6 c κs = tt
@@ -140,18 +122,12 @@ returns-6 : tie.Need-returns-6
 returns-6 c = let e = c .before .before .before in
     sym (past-5 e ∙ holds (name.Number Back) (from-bounds (word-5 e)) (sym (c .before .is-same6 .ensures) ∙ c .if6 .taken))
 
-slice-aggregate-is-same-7 : tie.Need-slice-aggregate-is-same-7
-slice-aggregate-is-same-7 c = refl
-
 is-same-requires-7 : tie.Need-is-same-requires-7
 is-same-requires-7 c κs = tt
 
 returns-7 : tie.Need-returns-7
 returns-7 c = let e = c .before .before .before in
     sym (past-6 e ∙ holds (name.Number Bounds) (from-why (word-6 e)) (sym (c .before .is-same7 .ensures) ∙ c .if7 .taken))
-
-slice-aggregate-is-same-8 : tie.Need-slice-aggregate-is-same-8
-slice-aggregate-is-same-8 c = refl
 
 is-same-requires-8 : tie.Need-is-same-requires-8
 is-same-requires-8 c κs = tt
@@ -160,9 +136,6 @@ returns-8 : tie.Need-returns-8
 returns-8 c = let e = c .before .before .before in
     sym (past-7 e ∙ holds (name.Literal Why) (from-conflict (word-7 e)) (sym (c .before .is-same8 .ensures) ∙ c .if8 .taken))
 
-slice-aggregate-is-same-9 : tie.Need-slice-aggregate-is-same-9
-slice-aggregate-is-same-9 c = refl
-
 is-same-requires-9 : tie.Need-is-same-requires-9
 is-same-requires-9 c κs = tt
 
@@ -170,18 +143,12 @@ returns-9 : tie.Need-returns-9
 returns-9 c = let e = c .before .before .before in
     sym (past-8 e ∙ holds (name.Number Conflict) (from-origin (word-8 e)) (sym (c .before .is-same9 .ensures) ∙ c .if9 .taken))
 
-slice-aggregate-is-same-10 : tie.Need-slice-aggregate-is-same-10
-slice-aggregate-is-same-10 c = refl
-
 is-same-requires-10 : tie.Need-is-same-requires-10
 is-same-requires-10 c κs = tt
 
 returns-10 : tie.Need-returns-10
 returns-10 c = let e = c .before .before .before in
     sym (past-9 e ∙ holds (name.Literal Origin) (from-trail (word-9 e)) (sym (c .before .is-same10 .ensures) ∙ c .if10 .taken))
-
-slice-aggregate-is-same-11 : tie.Need-slice-aggregate-is-same-11
-slice-aggregate-is-same-11 c = refl
 
 is-same-requires-11 : tie.Need-is-same-requires-11
 is-same-requires-11 c κs = tt
@@ -197,37 +164,7 @@ pub read-name-spec : {M : Type 1} → statement M
 read-name-spec =
     tie.close
     (tie.spec
-    slice-aggregate-is-same
-    is-same-requires
-    returns
-    slice-aggregate-is-same-2
-    is-same-requires-2
-    returns-2
-    slice-aggregate-is-same-3
-    is-same-requires-3
-    returns-3
-    slice-aggregate-is-same-4
-    is-same-requires-4
-    returns-4
-    slice-aggregate-is-same-5
-    is-same-requires-5
-    returns-5
-    slice-aggregate-is-same-6
-    is-same-requires-6
-    returns-6
-    slice-aggregate-is-same-7
-    is-same-requires-7
-    returns-7
-    slice-aggregate-is-same-8
-    is-same-requires-8
-    returns-8
-    slice-aggregate-is-same-9
-    is-same-requires-9
-    returns-9
-    slice-aggregate-is-same-10
-    is-same-requires-10
-    returns-10
-    slice-aggregate-is-same-11
-    is-same-requires-11
-    returns-11
-    returns-12)
+    (λ c. refl) is-same-requires returns (λ c. refl) is-same-requires-2 returns-2 (λ c. refl) is-same-requires-3 returns-3 (λ c. refl)
+    is-same-requires-4 returns-4 (λ c. refl) is-same-requires-5 returns-5 (λ c. refl) is-same-requires-6 returns-6 (λ c. refl) is-same-requires-7
+    returns-7 (λ c. refl) is-same-requires-8 returns-8 (λ c. refl) is-same-requires-9 returns-9 (λ c. refl) is-same-requires-10 returns-10 (λ c. refl)
+    is-same-requires-11 returns-11 returns-12)

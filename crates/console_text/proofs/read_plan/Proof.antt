@@ -12,15 +12,6 @@ first : (c : tie.After-known-told) →
     (c .before .from .given .0 .0) (c .before .from .given .0 .1 .0)
 first c = found (c .before .before .before .next-word .ensures) (c .before .from .given .1)
 
-next-word-requires : tie.Need-next-word-requires
-next-word-requires c κs = search needs
-
-enum-known-from : tie.Need-enum-known-from
-enum-known-from c = search needs
-
-enum-told : tie.Need-enum-told
-enum-told c = search needs
-
 returns : tie.Need-returns
 returns c = let k4 = c .before .before .before .before in let s = k4 in
     sym (ap plan-of (ended (s .args .line .now) (s .args .at) (c .before .before .next-word .ensures) (c .enum-told .given .1)))
@@ -34,15 +25,6 @@ part-read-unsigned-start c = let w = first c in search needs
 part-read-unsigned-end : tie.Need-part-read-unsigned-end
 part-read-unsigned-end c = let w = first c in search needs
 
-read-unsigned-requires : tie.Need-read-unsigned-requires
-read-unsigned-requires c κs = search needs
-
-enum-known-atoms : tie.Need-enum-known-atoms
-enum-known-atoms c = search needs
-
-enum-told-2 : tie.Need-enum-told-2
-enum-told-2 c = search needs
-
 returns-2 : tie.Need-returns-2
 returns-2 c = let k4′ = c .before .before .before .before in let k4 = k4′ in
     let w = first k4 in sym (ap plan-of (w .words-are) ∙ rw (sym (c .before .before .read-unsigned .ensures) ∙ c .enum-told2 .given .1))
@@ -50,12 +32,6 @@ returns-2 c = let k4′ = c .before .before .before .before in let k4 = k4′ in
 only-unsigned-requires : tie.Need-only-unsigned-requires
 only-unsigned-requires c κs = let k5′ = c .before .before .before .before .before in let k5 = k5′ in
     let w = first k5 in search needs
-
-enum-known-sentences : tie.Need-enum-known-sentences
-enum-known-sentences c = search needs
-
-enum-told-3 : tie.Need-enum-told-3
-enum-told-3 c = search needs
 
 returns-3 : tie.Need-returns-3
 returns-3 c = let k4 = c .before .before .before .before in let a = k4 in let ru = a .before .before in let k8 = ru .before .before in
@@ -77,19 +53,6 @@ pub read-plan-spec : {M : Type 1} → statement M
 read-plan-spec =
     tie.close
     (tie.spec
-    next-word-requires
-    enum-known-from
-    enum-told
-    returns
-    sub-read-unsigned
-    part-read-unsigned-start
-    part-read-unsigned-end
-    read-unsigned-requires
-    enum-known-atoms
-    enum-told-2
-    returns-2
-    only-unsigned-requires
-    enum-known-sentences
-    enum-told-3
-    returns-3
+    (λ c κs. search needs) (λ c. search needs) (λ c. search needs) returns sub-read-unsigned part-read-unsigned-start part-read-unsigned-end
+    (λ c κs. search needs) (λ c. search needs) (λ c. search needs) returns-2 only-unsigned-requires (λ c. search needs) (λ c. search needs) returns-3
     returns-4)

@@ -30,27 +30,12 @@ bound-word : (c : tie.After-known-told4) →
     (c .before .before .before .before .before .side-from .given .0 .1 .0) (c .before .bound-from .given .0 .0) (c .before .bound-from .given .0 .1 .0)
 bound-word c = found (c .before .before .before .next-word4 .ensures) (c .before .bound-from .given .1)
 
-next-word-requires : tie.Need-next-word-requires
-next-word-requires c κs = search needs
-
-enum-known-head-from : tie.Need-enum-known-head-from
-enum-known-head-from c = c .match .keys1
-
-enum-told : tie.Need-enum-told
-enum-told c = c .match .keys2
-
 returns : tie.Need-returns
 returns c = let s = c .before .before .before .before in
     sym (ap rule-of (ended (s .args .line .now) (s .args .at) (c .before .before .next-word .ensures) (c .enum-told .given .1)))
 
 next-word-requires-2 : tie.Need-next-word-requires-2
 next-word-requires-2 c κs = let w = head-word c in search needs
-
-enum-known-kind-from : tie.Need-enum-known-kind-from
-enum-known-kind-from c = c .match2 .keys1
-
-enum-told-2 : tie.Need-enum-told-2
-enum-told-2 c = c .match2 .keys2
 
 returns-2 : tie.Need-returns-2
 returns-2 c = let hf = c .before .before .before .before in let s = hf .before .before .before .before in
@@ -60,12 +45,6 @@ returns-2 c = let hf = c .before .before .before .before in let s = hf .before .
 next-word-requires-3 : tie.Need-next-word-requires-3
 next-word-requires-3 c κs = let w = kind-word c in search needs
 
-enum-known-side-from : tie.Need-enum-known-side-from
-enum-known-side-from c = c .match3 .keys1
-
-enum-told-3 : tie.Need-enum-told-3
-enum-told-3 c = c .match3 .keys2
-
 returns-3 : tie.Need-returns-3
 returns-3 c = let kf = c .before .before .before .before in let k7 = kf .before .before .before in
     let s = k7 .before .before .before .before .before in
@@ -74,12 +53,6 @@ returns-3 c = let kf = c .before .before .before .before in let k7 = kf .before 
 
 next-word-requires-4 : tie.Need-next-word-requires-4
 next-word-requires-4 c κs = let w = side-word c in search needs
-
-enum-known-bound-from : tie.Need-enum-known-bound-from
-enum-known-bound-from c = c .match4 .keys1
-
-enum-told-4 : tie.Need-enum-told-4
-enum-told-4 c = c .match4 .keys2
 
 returns-4 : tie.Need-returns-4
 returns-4 c = let sf = c .before .before .before .before in let k7 = sf .before .before .before in
@@ -102,12 +75,6 @@ part-read-signed-end c = let k12 = c .before .before .before .before .before .be
 read-signed-requires : tie.Need-read-signed-requires
 read-signed-requires c κs = tt
 
-enum-known-head : tie.Need-enum-known-head
-enum-known-head c = c .match5 .keys1
-
-enum-told-5 : tie.Need-enum-told-5
-enum-told-5 c = c .match5 .keys2
-
 returns-5 : tie.Need-returns-5
 returns-5 c = let k4 = c .before .before .before .before in let k8 = k4 .before .before .before .before in
     let k12 = k8 .before .before .before .before in let k16 = k12 .before .before .before .before in
@@ -128,12 +95,6 @@ part-read-kind-end c = let k13 = c .before .before .before .before .before .befo
 
 read-kind-requires : tie.Need-read-kind-requires
 read-kind-requires c κs = tt
-
-enum-known-kind : tie.Need-enum-known-kind
-enum-known-kind c = c .match6 .keys1
-
-enum-told-6 : tie.Need-enum-told-6
-enum-told-6 c = c .match6 .keys2
 
 returns-6 : tie.Need-returns-6
 returns-6 c = let h = c .before .before .before .before .before in let rs = h .before .before in let k9 = rs .before .before in
@@ -158,12 +119,6 @@ part-read-side-end c = let k14 = c .before .before .before .before .before .befo
 
 read-side-requires : tie.Need-read-side-requires
 read-side-requires c κs = tt
-
-enum-known-side : tie.Need-enum-known-side
-enum-known-side c = c .match7 .keys1
-
-enum-told-7 : tie.Need-enum-told-7
-enum-told-7 c = c .match7 .keys2
 
 returns-7 : tie.Need-returns-7
 returns-7 c = let k = c .before .before .before .before .before in let rk = k .before .before in let h = rk .before .before .before in
@@ -191,12 +146,6 @@ part-read-signed-end-2 c = let k15 = c .before .before .before .before .before .
 read-signed-requires-2 : tie.Need-read-signed-requires-2
 read-signed-requires-2 c κs = tt
 
-enum-known-bound : tie.Need-enum-known-bound
-enum-known-bound c = c .match8 .keys1
-
-enum-told-8 : tie.Need-enum-told-8
-enum-told-8 c = c .match8 .keys2
-
 returns-8 : tie.Need-returns-8
 returns-8 c = let sx = c .before .before .before .before .before in let rs = sx .before .before in let k = rs .before .before .before in
     let rk = k .before .before in let h = rk .before .before .before in let rs′ = h .before .before in let k19 = rs′ .before .before in
@@ -210,12 +159,6 @@ count-entries-requires : tie.Need-count-entries-requires
 count-entries-requires c κs = let k20 = c .before .before .before .before .before .before .before .before .before .before .before .before .before
     .before .before .before .before .before .before .before in
     let w = bound-word k20 in search needs
-
-enum-known-entries : tie.Need-enum-known-entries
-enum-known-entries c = c .match9 .keys1
-
-enum-told-9 : tie.Need-enum-told-9
-enum-told-9 c = c .match9 .keys2
 
 returns-9 : tie.Need-returns-9
 returns-9 c = let b = c .before .before .before .before in let rs2 = b .before .before in let sx = rs2 .before .before .before in
@@ -245,52 +188,10 @@ pub read-rule-spec : {M : Type 1} → statement M
 read-rule-spec =
     tie.close
     (tie.spec
-    next-word-requires
-    enum-known-head-from
-    enum-told
-    returns
-    next-word-requires-2
-    enum-known-kind-from
-    enum-told-2
-    returns-2
-    next-word-requires-3
-    enum-known-side-from
-    enum-told-3
-    returns-3
-    next-word-requires-4
-    enum-known-bound-from
-    enum-told-4
-    returns-4
-    sub-read-signed
-    part-read-signed-start
-    part-read-signed-end
-    read-signed-requires
-    enum-known-head
-    enum-told-5
-    returns-5
-    sub-read-kind
-    part-read-kind-start
-    part-read-kind-end
-    read-kind-requires
-    enum-known-kind
-    enum-told-6
-    returns-6
-    sub-read-side
-    part-read-side-start
-    part-read-side-end
-    read-side-requires
-    enum-known-side
-    enum-told-7
-    returns-7
-    sub-read-signed-2
-    part-read-signed-start-2
-    part-read-signed-end-2
-    read-signed-requires-2
-    enum-known-bound
-    enum-told-8
-    returns-8
-    count-entries-requires
-    enum-known-entries
-    enum-told-9
-    returns-9
-    returns-10)
+    (λ c κs. search needs) (λ c. c .match .keys1) (λ c. c .match .keys2) returns next-word-requires-2 (λ c. c .match2 .keys1) (λ c. c .match2 .keys2)
+    returns-2 next-word-requires-3 (λ c. c .match3 .keys1) (λ c. c .match3 .keys2) returns-3 next-word-requires-4 (λ c. c .match4 .keys1)
+    (λ c. c .match4 .keys2) returns-4 sub-read-signed part-read-signed-start part-read-signed-end read-signed-requires (λ c. c .match5 .keys1)
+    (λ c. c .match5 .keys2) returns-5 sub-read-kind part-read-kind-start part-read-kind-end read-kind-requires (λ c. c .match6 .keys1)
+    (λ c. c .match6 .keys2) returns-6 sub-read-side part-read-side-start part-read-side-end read-side-requires (λ c. c .match7 .keys1)
+    (λ c. c .match7 .keys2) returns-7 sub-read-signed-2 part-read-signed-start-2 part-read-signed-end-2 read-signed-requires-2 (λ c. c .match8 .keys1)
+    (λ c. c .match8 .keys2) returns-8 count-entries-requires (λ c. c .match9 .keys1) (λ c. c .match9 .keys2) returns-9 returns-10)

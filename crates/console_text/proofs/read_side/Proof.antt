@@ -5,21 +5,9 @@ use Rattle.console_text.specs.Command.{side-of}
 use Rattle.console_text.proofs.read_side.Statement.{statement}
 use Rattle.console_text.proofs.read_side.Tie as tie
 
-slice-aggregate-is-same : tie.Need-slice-aggregate-is-same
-slice-aggregate-is-same c = search needs
-
-is-same-requires : tie.Need-is-same-requires
-is-same-requires c κs = search needs
-
 returns : tie.Need-returns
 unfolding side-of
 returns c = rw (sym (c .before .is-same .ensures) ∙ c .if1 .taken)
-
-slice-aggregate-is-same-2 : tie.Need-slice-aggregate-is-same-2
-slice-aggregate-is-same-2 c = search needs
-
-is-same-requires-2 : tie.Need-is-same-requires-2
-is-same-requires-2 c κs = search needs
 
 returns-2 : tie.Need-returns-2
 unfolding side-of
@@ -35,10 +23,4 @@ pub read-side-spec : {M : Type 1} → statement M
 read-side-spec =
     tie.close
     (tie.spec
-    slice-aggregate-is-same
-    is-same-requires
-    returns
-    slice-aggregate-is-same-2
-    is-same-requires-2
-    returns-2
-    returns-3)
+    (λ c. search needs) (λ c κs. search needs) returns (λ c. search needs) (λ c κs. search needs) returns-2 returns-3)

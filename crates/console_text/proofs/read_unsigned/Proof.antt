@@ -22,9 +22,6 @@ returns c = sym (read-none _ (c .if1 .taken))
 loop-holds : tie.Need-loop-holds Inv-loop μ-loop
 loop-holds c = (omega arith, omega arith, read-first (c .before .args .word .now) (omega arith))
 
-shared-slice-read-b : tie.Need-shared-slice-read-b Inv-loop μ-loop
-shared-slice-read-b c = search needs
-
 returns-2 : tie.Need-returns-2 Inv-loop μ-loop
 returns-2 c = let s = c .before .before .before .before .before in let w = s .args .word .now in let i = c .before .before .before .loop .i in
     let n = c .before .before .before .loop .n in
@@ -35,28 +32,10 @@ returns-3 c = let p = c .before .before .before .before in let s = p .before .be
     let n = p .loop .n in
     sym (p .loop .inv .2 ∙ above-digits w i n (omega arith) (omega arith))
 
-cast-d : tie.Need-cast-d Inv-loop μ-loop
-cast-d c = search needs
-
-sub-if4 : tie.Need-sub-if4 Inv-loop μ-loop
-sub-if4 c = search needs
-
 returns-4 : tie.Need-returns-4 Inv-loop μ-loop
 returns-4 c = let p = c .before .before .before .before .before in let s = p .before .before in let w = s .args .word .now in
     let i = p .loop .i in let n = p .loop .n in
     sym (p .loop .inv .2 ∙ digit-read w i n (omega arith) (omega arith) (omega arith) ∙ too-large _ _ (omega arith))
-
-mul-n : tie.Need-mul-n Inv-loop μ-loop
-mul-n c = omega arith
-
-add-n : tie.Need-add-n Inv-loop μ-loop
-add-n c = omega arith
-
-add-i : tie.Need-add-i Inv-loop μ-loop
-add-i c = search needs
-
-loop-less : tie.Need-loop-less Inv-loop μ-loop
-loop-less c = search needs
 
 loop-again : tie.Need-loop-again Inv-loop μ-loop
 loop-again c = let p = c .before .before .before .before .before in let s = p .before .before in let w = s .args .word .now in
@@ -71,19 +50,5 @@ pub read-unsigned-spec : {M : Type 1} → statement M
 read-unsigned-spec =
     tie.close
     (tie.spec
-    Inv-loop
-    μ-loop
-    returns
-    loop-holds
-    shared-slice-read-b
-    returns-2
-    returns-3
-    cast-d
-    sub-if4
-    returns-4
-    mul-n
-    add-n
-    add-i
-    loop-less
-    loop-again
-    returns-5)
+    Inv-loop μ-loop returns loop-holds (λ c. search needs) returns-2 returns-3 (λ c. search needs) (λ c. search needs) returns-4 (λ c. omega arith)
+    (λ c. omega arith) (λ c. search needs) (λ c. search needs) loop-again returns-5)

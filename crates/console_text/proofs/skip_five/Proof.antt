@@ -20,27 +20,12 @@ abbrev μ-loop : tie.MeasureT-loop
 loop-holds : tie.Need-loop-holds Inv-loop μ-loop
 loop-holds c = (omega arith, omega arith, refl)
 
-add-k : tie.Need-add-k Inv-loop μ-loop
-add-k c = search needs
-
-next-word-requires : tie.Need-next-word-requires Inv-loop μ-loop
-next-word-requires c κs = search needs
-
-enum-known-to : tie.Need-enum-known-to Inv-loop μ-loop
-enum-known-to c = search needs
-
-enum-told : tie.Need-enum-told Inv-loop μ-loop
-enum-told c = search needs
-
 returns : tie.Need-returns Inv-loop μ-loop
 returns c = let p = c .before .before .before .before in let s = p .before .before in (
   omega arith,
   no-words-left (s .args .line .now) (p .loop .at) (p .loop .k) 5 (omega arith) (p .loop .inv .2) (ended (s .args .line .now) (p
       .loop .at) (c .before .before .next-word .ensures) (c .enum-told .given .1)),
 )
-
-loop-less : tie.Need-loop-less Inv-loop μ-loop
-loop-less c = omega arith
 
 loop-again : tie.Need-loop-again Inv-loop μ-loop
 loop-again c = let p = c .before .before .before .before .before in let s = p .before .before in
@@ -55,14 +40,5 @@ pub skip-five-spec : {M : Type 1} → statement M
 skip-five-spec =
     tie.close
     (tie.spec
-    Inv-loop
-    μ-loop
-    loop-holds
-    add-k
-    next-word-requires
-    enum-known-to
-    enum-told
-    returns
-    loop-less
-    loop-again
-    returns-2)
+    Inv-loop μ-loop loop-holds (λ c. search needs) (λ c κs. search needs) (λ c. search needs) (λ c. search needs) returns (λ c. omega arith)
+    loop-again returns-2)

@@ -20,27 +20,12 @@ second : (c : tie.After-known-told2) →
     (c .before .before .before .before .before .from .given .0 .1 .0) (c .before .start .given .0 .0) (c .before .start .given .0 .1 .0)
 second c = found (c .before .before .before .next-word2 .ensures) (c .before .start .given .1)
 
-next-word-requires : tie.Need-next-word-requires
-next-word-requires c κs = search needs
-
-enum-known-from : tie.Need-enum-known-from
-enum-known-from c = search needs
-
-enum-told : tie.Need-enum-told
-enum-told c = search needs
-
 returns : tie.Need-returns
 returns c = let k4 = c .before .before .before .before in let s = k4 in
     ended (s .args .line .now) (s .args .at) (c .before .before .next-word .ensures) (c .enum-told .given .1)
 
 next-word-requires-2 : tie.Need-next-word-requires-2
 next-word-requires-2 c κs = let w = first c in search needs
-
-enum-known-start : tie.Need-enum-known-start
-enum-known-start c = search needs
-
-enum-told-2 : tie.Need-enum-told-2
-enum-told-2 c = search needs
 
 returns-2 : tie.Need-returns-2
 returns-2 c = let k4 = c .before .before .before .before in let from = k4 in let s = from .before .before .before .before in
@@ -59,15 +44,6 @@ part-read-signed-end : tie.Need-part-read-signed-end
 part-read-signed-end c = let k4′ = c .before .before .before .before in let k4 = k4′ in
     let w = first k4 in search needs
 
-read-signed-requires : tie.Need-read-signed-requires
-read-signed-requires c κs = search needs
-
-enum-known-weight : tie.Need-enum-known-weight
-enum-known-weight c = search needs
-
-enum-told-3 : tie.Need-enum-told-3
-enum-told-3 c = search needs
-
 returns-3 : tie.Need-returns-3
 returns-3 c = let k4′ = c .before .before .before .before in let k4 = k4′ in let k8 = k4 .before .before .before .before in
     let s = k8 .before .before .before .before .before in
@@ -85,15 +61,6 @@ part-read-signed-start-2 c = let k5′ = c .before .before .before .before .befo
 part-read-signed-end-2 : tie.Need-part-read-signed-end-2
 part-read-signed-end-2 c = let k5′ = c .before .before .before .before .before in let k5 = k5′ in
     let w = second k5 in search needs
-
-read-signed-requires-2 : tie.Need-read-signed-requires-2
-read-signed-requires-2 c κs = search needs
-
-enum-known-literal : tie.Need-enum-known-literal
-enum-known-literal c = search needs
-
-enum-told-4 : tie.Need-enum-told-4
-enum-told-4 c = search needs
 
 returns-4 : tie.Need-returns-4
 returns-4 c = let k5 = c .before .before .before .before .before in let wx = k5 in let rs = wx .before .before in
@@ -117,26 +84,7 @@ pub take-entry-spec : {M : Type 1} → statement M
 take-entry-spec =
     tie.close
     (tie.spec
-    next-word-requires
-    enum-known-from
-    enum-told
-    returns
-    next-word-requires-2
-    enum-known-start
-    enum-told-2
-    returns-2
-    sub-read-signed
-    part-read-signed-start
-    part-read-signed-end
-    read-signed-requires
-    enum-known-weight
-    enum-told-3
-    returns-3
-    sub-read-signed-2
-    part-read-signed-start-2
-    part-read-signed-end-2
-    read-signed-requires-2
-    enum-known-literal
-    enum-told-4
-    returns-4
+    (λ c κs. search needs) (λ c. search needs) (λ c. search needs) returns next-word-requires-2 (λ c. search needs) (λ c. search needs) returns-2
+    sub-read-signed part-read-signed-start part-read-signed-end (λ c κs. search needs) (λ c. search needs) (λ c. search needs) returns-3
+    sub-read-signed-2 part-read-signed-start-2 part-read-signed-end-2 (λ c κs. search needs) (λ c. search needs) (λ c. search needs) returns-4
     returns-5)

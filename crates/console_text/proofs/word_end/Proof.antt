@@ -16,21 +16,12 @@ Inv-loop line from i₀ i = (from < i) × (i ≤ length line) × (words (drop fr
 abbrev μ-loop : tie.MeasureT-loop
 μ-loop line from i₀ i = length line - i
 
-add-i : tie.Need-add-i Inv-loop μ-loop
-add-i c = search needs
-
 loop-holds : tie.Need-loop-holds Inv-loop μ-loop
 loop-holds c = (
   omega arith,
   omega arith,
   rw add-one (run-begins (c .before .args .line .now) (c .before .args .from) (omega arith) (c .before .pre .1)),
 )
-
-shared-slice-read-is-blank : tie.Need-shared-slice-read-is-blank Inv-loop μ-loop
-shared-slice-read-is-blank c = search needs
-
-is-blank-requires : tie.Need-is-blank-requires Inv-loop μ-loop
-is-blank-requires c κs = search needs
 
 returns : tie.Need-returns Inv-loop μ-loop
 returns c = let p = c .before .before .before .before in let s = p .before .before in let l = s .args .line .now in let f = s .args .from in
@@ -42,12 +33,6 @@ returns c = let p = c .before .before .before .before in let s = p .before .befo
       words-are = p .loop .inv .2
           ∙ run-ends l f i (omega arith) (omega arith) (sym (c .before .is-blank .ensures) ∙ c .if1 .taken);
     }
-
-add-i-2 : tie.Need-add-i-2 Inv-loop μ-loop
-add-i-2 c = search needs
-
-loop-less : tie.Need-loop-less Inv-loop μ-loop
-loop-less c = search needs
 
 loop-again : tie.Need-loop-again Inv-loop μ-loop
 loop-again c = let p = c .before .before .before .before in let s = p .before .before in let l = s .args .line .now in let f = s .args .from in
@@ -71,14 +56,5 @@ pub word-end-spec : {M : Type 1} → statement M
 word-end-spec =
     tie.close
     (tie.spec
-    Inv-loop
-    μ-loop
-    add-i
-    loop-holds
-    shared-slice-read-is-blank
-    is-blank-requires
-    returns
-    add-i-2
-    loop-less
-    loop-again
-    returns-2)
+    Inv-loop μ-loop (λ c. search needs) loop-holds (λ c. search needs) (λ c κs. search needs) returns (λ c. search needs) (λ c. search needs)
+    loop-again returns-2)

@@ -6,9 +6,6 @@ use borrow.Author.Needs.{needs}
 use Rattle.dalelead.proofs.bounds.Statement.{statement}
 use Rattle.dalelead.proofs.bounds.Tie as tie
 
-base-requires : tie.Need-base-requires
-base-requires c κs = search needs
-
 bounds-within-requires : tie.Need-bounds-within-requires
 bounds-within-requires c κs = subst Fitting (sym (c .base .ensures)) base-fits
 
@@ -16,4 +13,6 @@ returns : tie.Need-returns
 returns c = rw (c .before .base .ensures) at (c .bounds-within .ensures)
 
 pub bounds-spec : {M : Type 1} → statement M
-bounds-spec = tie.close (tie.spec base-requires bounds-within-requires returns)
+bounds-spec = tie.close
+    (tie.spec
+    (λ c κs. search needs) bounds-within-requires returns)

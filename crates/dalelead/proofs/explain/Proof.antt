@@ -8,14 +8,8 @@ use borrow.Author.Needs.{needs}
 use Rattle.dalelead.proofs.explain.Statement.{statement}
 use Rattle.dalelead.proofs.explain.Tie as tie
 
-base-requires : tie.Need-base-requires
-base-requires c κs = search needs
-
 explain-within-requires : tie.Need-explain-within-requires
 explain-within-requires c κs = subst Fitting (sym (c .before .base .ensures)) base-fits
-
-same-length : tie.Need-same-length
-same-length c = search needs
 
 returns : tie.Need-returns
 returns c =
@@ -23,4 +17,6 @@ returns c =
     (c .before .explain-within .ensures)
 
 pub explain-spec : {M : Type 1} → statement M
-explain-spec = tie.close (tie.spec base-requires explain-within-requires same-length returns)
+explain-spec = tie.close
+    (tie.spec
+    (λ c κs. search needs) explain-within-requires (λ c. search needs) returns)

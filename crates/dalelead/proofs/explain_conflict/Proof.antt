@@ -6,17 +6,13 @@ use borrow.Author.Needs.{needs}
 use Rattle.dalelead.proofs.explain_conflict.Statement.{statement}
 use Rattle.dalelead.proofs.explain_conflict.Tie as tie
 
-base-requires : tie.Need-base-requires
-base-requires c κs = search needs
-
 explain-conflict-within-requires : tie.Need-explain-conflict-within-requires
 explain-conflict-within-requires c κs = subst Fitting (sym (c .before .base .ensures)) base-fits
-
-same-length : tie.Need-same-length
-same-length c = search needs
 
 returns : tie.Need-returns
 returns c = rw (c .before .before .before .base .ensures) at (c .before .explain-conflict-within .ensures)
 
 pub explain-conflict-spec : {M : Type 1} → statement M
-explain-conflict-spec = tie.close (tie.spec base-requires explain-conflict-within-requires same-length returns)
+explain-conflict-spec = tie.close
+    (tie.spec
+    (λ c κs. search needs) explain-conflict-within-requires (λ c. search needs) returns)

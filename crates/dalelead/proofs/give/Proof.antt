@@ -8,14 +8,8 @@ use borrow.Author.Needs.{needs}
 use Rattle.dalelead.proofs.give.Statement.{statement}
 use Rattle.dalelead.proofs.give.Tie as tie
 
-base-requires : tie.Need-base-requires
-base-requires c κs = search needs
-
 give-within-requires : tie.Need-give-within-requires
 give-within-requires c κs = subst Fitting (sym (c .base .ensures)) base-fits
-
-same-length : tie.Need-same-length
-same-length c = search needs
 
 returns : tie.Need-returns
 returns c =
@@ -23,4 +17,6 @@ returns c =
     (c .before .before .give-within .ensures)
 
 pub give-spec : {M : Type 1} → statement M
-give-spec = tie.close (tie.spec base-requires give-within-requires same-length returns)
+give-spec = tie.close
+    (tie.spec
+    (λ c κs. search needs) give-within-requires (λ c. search needs) returns)

@@ -6,17 +6,13 @@ use borrow.Author.Needs.{needs}
 use Rattle.dalelead.proofs.list_trail.Statement.{statement}
 use Rattle.dalelead.proofs.list_trail.Tie as tie
 
-base-requires : tie.Need-base-requires
-base-requires c κs = search needs
-
 list-trail-within-requires : tie.Need-list-trail-within-requires
 list-trail-within-requires c κs = subst Fitting (sym (c .before .base .ensures)) base-fits
-
-same-length : tie.Need-same-length
-same-length c = search needs
 
 returns : tie.Need-returns
 returns c = rw (c .before .before .before .base .ensures) at (c .before .list-trail-within .ensures)
 
 pub list-trail-spec : {M : Type 1} → statement M
-list-trail-spec = tie.close (tie.spec base-requires list-trail-within-requires same-length returns)
+list-trail-spec = tie.close
+    (tie.spec
+    (λ c κs. search needs) list-trail-within-requires (λ c. search needs) returns)

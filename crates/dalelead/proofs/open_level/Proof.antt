@@ -6,17 +6,13 @@ use borrow.Author.Needs.{needs}
 use Rattle.dalelead.proofs.open_level.Statement.{statement}
 use Rattle.dalelead.proofs.open_level.Tie as tie
 
-base-requires : tie.Need-base-requires
-base-requires c κs = search needs
-
 open-within-requires : tie.Need-open-within-requires
 open-within-requires c κs = subst Fitting (sym (c .base .ensures)) base-fits
-
-same-length : tie.Need-same-length
-same-length c = search needs
 
 returns : tie.Need-returns
 returns c = rw (c .before .before .before .base .ensures) at (c .before .before .open-within .ensures)
 
 pub open-level-spec : {M : Type 1} → statement M
-open-level-spec = tie.close (tie.spec base-requires open-within-requires same-length returns)
+open-level-spec = tie.close
+    (tie.spec
+    (λ c κs. search needs) open-within-requires (λ c. search needs) returns)

@@ -8,14 +8,8 @@ use borrow.Author.Needs.{needs}
 use Rattle.dalelead.proofs.origin.Statement.{statement}
 use Rattle.dalelead.proofs.origin.Tie as tie
 
-base-requires : tie.Need-base-requires
-base-requires c κs = search needs
-
 origin-within-requires : tie.Need-origin-within-requires
 origin-within-requires c κs = subst Fitting (sym (c .before .base .ensures)) base-fits
-
-same-length : tie.Need-same-length
-same-length c = search needs
 
 returns : tie.Need-returns
 returns c =
@@ -23,4 +17,6 @@ returns c =
     (c .before .origin-within .ensures)
 
 pub origin-spec : {M : Type 1} → statement M
-origin-spec = tie.close (tie.spec base-requires origin-within-requires same-length returns)
+origin-spec = tie.close
+    (tie.spec
+    (λ c κs. search needs) origin-within-requires (λ c. search needs) returns)

@@ -6,17 +6,13 @@ use borrow.Author.Needs.{needs}
 use Rattle.dalelead.proofs.propagate.Statement.{statement}
 use Rattle.dalelead.proofs.propagate.Tie as tie
 
-base-requires : tie.Need-base-requires
-base-requires c κs = search needs
-
 propagate-within-requires : tie.Need-propagate-within-requires
 propagate-within-requires c κs = subst Fitting (sym (c .base .ensures)) base-fits
-
-same-length : tie.Need-same-length
-same-length c = search needs
 
 returns : tie.Need-returns
 returns c = rw (c .before .before .before .base .ensures) at (c .before .before .propagate-within .ensures)
 
 pub propagate-spec : {M : Type 1} → statement M
-propagate-spec = tie.close (tie.spec base-requires propagate-within-requires same-length returns)
+propagate-spec = tie.close
+    (tie.spec
+    (λ c κs. search needs) propagate-within-requires (λ c. search needs) returns)

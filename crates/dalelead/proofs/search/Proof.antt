@@ -6,17 +6,13 @@ use borrow.Author.Needs.{needs}
 use Rattle.dalelead.proofs.search.Statement.{statement}
 use Rattle.dalelead.proofs.search.Tie as tie
 
-base-requires : tie.Need-base-requires
-base-requires c κs = search needs
-
 search-within-requires : tie.Need-search-within-requires
 search-within-requires c κs = subst Fitting (sym (c .base .ensures)) base-fits
-
-same-length : tie.Need-same-length
-same-length c = search needs
 
 returns : tie.Need-returns
 returns c = rw (c .before .before .before .base .ensures) at (c .before .before .search-within .ensures)
 
 pub search-spec : {M : Type 1} → statement M
-search-spec = tie.close (tie.spec base-requires search-within-requires same-length returns)
+search-spec = tie.close
+    (tie.spec
+    (λ c κs. search needs) search-within-requires (λ c. search needs) returns)

@@ -6,17 +6,13 @@ use borrow.Author.Needs.{needs}
 use Rattle.dalelead.proofs.take_back.Statement.{statement}
 use Rattle.dalelead.proofs.take_back.Tie as tie
 
-base-requires : tie.Need-base-requires
-base-requires c κs = search needs
-
 take-back-within-requires : tie.Need-take-back-within-requires
 take-back-within-requires c κs = subst Fitting (sym (c .base .ensures)) base-fits
-
-same-length : tie.Need-same-length
-same-length c = search needs
 
 returns : tie.Need-returns
 returns c = rw (c .before .before .before .base .ensures) at (c .before .before .take-back-within .ensures)
 
 pub take-back-spec : {M : Type 1} → statement M
-take-back-spec = tie.close (tie.spec base-requires take-back-within-requires same-length returns)
+take-back-spec = tie.close
+    (tie.spec
+    (λ c κs. search needs) take-back-within-requires (λ c. search needs) returns)

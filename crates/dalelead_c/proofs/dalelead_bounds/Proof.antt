@@ -8,9 +8,6 @@ use borrow.Author.Needs.{needs}
 use Rattle.dalelead_c.proofs.dalelead_bounds.Statement.{statement}
 use Rattle.dalelead_c.proofs.dalelead_bounds.Tie as tie
 
-bounds-requires : tie.Need-bounds-requires
-bounds-requires c κs = search needs
-
 returns : tie.Need-returns
 returns c = let s = c .before .before .before .before in
     let w = s .args .area .now in
@@ -18,9 +15,6 @@ returns c = let s = c .before .before .before .before in
     let k = s .args .sentence in
     let found = c .before .before .bounds in
     bounds-refused w had k (bounds-paper (found .result)) (found .ensures) (s .args .out .now) (c .if1 .taken) refl
-
-answer-requires : tie.Need-answer-requires
-answer-requires c κs = search needs
 
 returns-2 : tie.Need-returns-2
 returns-2 c = let s = c .before .before .before .before .before .before in
@@ -42,9 +36,6 @@ put-bounds-requires c κs = let s = c .before .before .before .before .before .b
       greatest-marked w had k (bounds-paper (found .result)) (found .ensures),
     )
 
-same-length : tie.Need-same-length
-same-length c = search needs
-
 returns-3 : tie.Need-returns-3
 returns-3 c = let s = c .before .before .before .before .before .before .before .before in
     let w = s .args .area .now in
@@ -58,10 +49,4 @@ pub dalelead-bounds-spec : {M : Type 1} → statement M
 dalelead-bounds-spec =
     tie.close
     (tie.spec
-    bounds-requires
-    returns
-    answer-requires
-    returns-2
-    put-bounds-requires
-    same-length
-    returns-3)
+    (λ c κs. search needs) returns (λ c κs. search needs) returns-2 put-bounds-requires (λ c. search needs) returns-3)

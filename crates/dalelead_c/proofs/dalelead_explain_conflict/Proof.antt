@@ -9,9 +9,6 @@ use borrow.Author.Needs.{needs}
 use Rattle.dalelead_c.proofs.dalelead_explain_conflict.Statement.{statement}
 use Rattle.dalelead_c.proofs.dalelead_explain_conflict.Tie as tie
 
-explain-conflict-requires : tie.Need-explain-conflict-requires
-explain-conflict-requires c κs = search needs
-
 answer-requires : tie.Need-answer-requires
 answer-requires c κs = let s = c .before .before .before .before in
     let w = s .args .area .now in
@@ -20,9 +17,6 @@ answer-requires c κs = let s = c .before .before .before .before in
     let found = c .before .explain-conflict in
     let l = found .ensures in
     conflict-list-small w had (listed-paper (found .result)) (s .args .sentence) (length old) (l .answer)
-
-same-length : tie.Need-same-length
-same-length c = search needs
 
 returns : tie.Need-returns
 returns c = let s = c .before .before .before .before .before in
@@ -36,4 +30,6 @@ returns c = let s = c .before .before .before .before .before in
 
 pub dalelead-explain-conflict-spec : {M : Type 1} → statement M
 dalelead-explain-conflict-spec =
-    tie.close (tie.spec explain-conflict-requires answer-requires same-length returns)
+    tie.close
+    (tie.spec
+    (λ c κs. search needs) answer-requires (λ c. search needs) returns)

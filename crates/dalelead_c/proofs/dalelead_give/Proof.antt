@@ -16,29 +16,11 @@ use borrow.Author.Needs.{needs}
 use Rattle.dalelead_c.proofs.dalelead_give.Statement.{statement}
 use Rattle.dalelead_c.proofs.dalelead_give.Tie as tie
 
-give-short-requires : tie.Need-give-short-requires
-give-short-requires c κs = search needs
-
-same-length : tie.Need-same-length
-same-length c = search needs
-
 returns : tie.Need-returns
 returns c = let s = c .before .before .before .before .before in
     changes-short (s .args .area .now) (counters (s .args .length) (s .args .level)) (give (s .args .literal)) next-counters (s .args .next .now) 2
     (c .give-short .result) refl (omega arith)
     (rw (toZ-ofZ w64 (s .args .literal) (s .fits .literal)) at (c .give-short .ensures))
-
-give-requires : tie.Need-give-requires
-give-requires c κs = search needs
-
-finish-requires : tie.Need-finish-requires
-finish-requires c κs = search needs
-
-same-length-2 : tie.Need-same-length-2
-same-length-2 c = search needs
-
-same-length-3 : tie.Need-same-length-3
-same-length-3 c = search needs
 
 returns-2 : tie.Need-returns-2
 returns-2 c = let s = c .before .before .before .before .before .before .before .before .before .before .before in
@@ -57,11 +39,4 @@ pub dalelead-give-spec : {M : Type 1} → statement M
 dalelead-give-spec =
     tie.close
     (tie.spec
-    give-short-requires
-    same-length
-    returns
-    give-requires
-    finish-requires
-    same-length-2
-    same-length-3
-    returns-2)
+    (λ c κs. search needs) (λ c. search needs) returns (λ c κs. search needs) (λ c κs. search needs) (λ c. search needs) (λ c. search needs) returns-2)

@@ -13,26 +13,17 @@ cols c =
     columns (c .args .heads .now) (c .args .kinds .now) (c .args .sides .now) (c .args .bounds .now) (c .args .counts .now) (c .args .weights .now)
     (c .args .literals .now)
 
-load-short-requires : tie.Need-load-short-requires
-load-short-requires c κs = search needs
-
 returns : tie.Need-returns
 returns c = let s = c .before .before .before .before .before .before .before .before in
     let w = s .args .area .now in
     let n = s .args .atoms in
     loads-short w n (cols s) (s .args .next .now) (c .load-short .result) (omega arith) (c .load-short .ensures)
 
-load-requires : tie.Need-load-requires
-load-requires c κs = search needs
-
 answer-requires : tie.Need-answer-requires
 answer-requires c κs = let s = c .before .before .before .before .before .before .before .before .before .before .before .before .before in
     let w = s .args .area .now in
     let n = s .args .atoms in
     subst Small (sym (c .before .before .before .before .load .ensures .answer-is)) (load-small (length w) n (cols s))
-
-same-length : tie.Need-same-length
-same-length c = search needs
 
 returns-2 : tie.Need-returns-2
 returns-2 c = let s = c .before .before .before .before .before .before .before .before .before .before .before .before .before .before in
@@ -41,15 +32,6 @@ returns-2 c = let s = c .before .before .before .before .before .before .before 
     loads-refused w n (cols s) (s .args .next .now) (c .answer .result) (c .before .before .before .before .before .load .last .0)
     (c .before .before .before .before .before .load .result) (c .before .before .before .before .before .load .ensures) (c .before .if2 .taken)
     (c .answer .ensures)
-
-put-two-requires : tie.Need-put-two-requires
-put-two-requires c κs = search needs
-
-same-length-2 : tie.Need-same-length-2
-same-length-2 c = search needs
-
-same-length-3 : tie.Need-same-length-3
-same-length-3 c = search needs
 
 returns-3 : tie.Need-returns-3
 returns-3 c =
@@ -66,13 +48,5 @@ pub dalelead-load-spec : {M : Type 1} → statement M
 dalelead-load-spec =
     tie.close
     (tie.spec
-    load-short-requires
-    returns
-    load-requires
-    answer-requires
-    same-length
-    returns-2
-    put-two-requires
-    same-length-2
-    same-length-3
-    returns-3)
+    (λ c κs. search needs) returns (λ c κs. search needs) answer-requires (λ c. search needs) returns-2 (λ c κs. search needs) (λ c. search needs)
+    (λ c. search needs) returns-3)

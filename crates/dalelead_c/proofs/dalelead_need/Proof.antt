@@ -21,9 +21,6 @@ within c = let lim = c .before .before .before .before .before .before .before .
   omega (arith, ap (λ (l : Limits). l .entries) lim, c .if4 .left),
 )
 
-base-requires : tie.Need-base-requires
-base-requires c κs = search needs
-
 returns : tie.Need-returns
 returns c = need-none (c .before .before .args .atoms) (c .before .before .args .sentences) (c .before .before .args .entries) (c .if1 .taken)
 
@@ -70,14 +67,4 @@ pub dalelead-need-spec : {M : Type 1} → statement M
 dalelead-need-spec =
     tie.close
     (tie.spec
-    base-requires
-    returns
-    returns-2
-    returns-3
-    returns-4
-    mul-result
-    mul-result-2
-    add-result
-    mul-result-3
-    add-result-2
-    returns-5)
+    (λ c κs. search needs) returns returns-2 returns-3 returns-4 mul-result mul-result-2 add-result mul-result-3 add-result-2 returns-5)

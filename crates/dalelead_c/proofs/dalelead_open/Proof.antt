@@ -14,29 +14,11 @@ use borrow.Author.Needs.{needs}
 use Rattle.dalelead_c.proofs.dalelead_open.Statement.{statement}
 use Rattle.dalelead_c.proofs.dalelead_open.Tie as tie
 
-open-short-requires : tie.Need-open-short-requires
-open-short-requires c κs = search needs
-
-same-length : tie.Need-same-length
-same-length c = search needs
-
 returns : tie.Need-returns
 returns c = let s = c .before .before .before .before .before in
     changes-short (s .args .area .now) (counters (s .args .length) (s .args .level)) (open-level) next-counters (s .args .next .now) 2
     (c .open-short .result) refl (omega arith)
     (c .open-short .ensures)
-
-open-level-requires : tie.Need-open-level-requires
-open-level-requires c κs = search needs
-
-finish-requires : tie.Need-finish-requires
-finish-requires c κs = search needs
-
-same-length-2 : tie.Need-same-length-2
-same-length-2 c = search needs
-
-same-length-3 : tie.Need-same-length-3
-same-length-3 c = search needs
 
 returns-2 : tie.Need-returns-2
 returns-2 c = let s = c .before .before .before .before .before .before .before .before .before .before .before in
@@ -55,11 +37,4 @@ pub dalelead-open-spec : {M : Type 1} → statement M
 dalelead-open-spec =
     tie.close
     (tie.spec
-    open-short-requires
-    same-length
-    returns
-    open-level-requires
-    finish-requires
-    same-length-2
-    same-length-3
-    returns-2)
+    (λ c κs. search needs) (λ c. search needs) returns (λ c κs. search needs) (λ c κs. search needs) (λ c. search needs) (λ c. search needs) returns-2)

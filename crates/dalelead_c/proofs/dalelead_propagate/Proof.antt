@@ -12,25 +12,10 @@ use borrow.Author.Needs.{needs}
 use Rattle.dalelead_c.proofs.dalelead_propagate.Statement.{statement}
 use Rattle.dalelead_c.proofs.dalelead_propagate.Tie as tie
 
-propagate-short-requires : tie.Need-propagate-short-requires
-propagate-short-requires c κs = search needs
-
-same-length : tie.Need-same-length
-same-length c = search needs
-
 returns : tie.Need-returns
 returns c = let s = c .before .before .before .before .before in
     changes-short (s .args .area .now) (counters (s .args .length) (s .args .level)) propagate (next-counted (s .args .area .now))
     (s .args .next .now) 3 (c .propagate-short .result) refl (omega arith) (c .propagate-short .ensures)
-
-propagate-requires : tie.Need-propagate-requires
-propagate-requires c κs = search needs
-
-enum-told : tie.Need-enum-told
-enum-told c = search needs
-
-same-length-2 : tie.Need-same-length-2
-same-length-2 c = search needs
 
 returns-2 : tie.Need-returns-2
 returns-2 c = let s = c .before .before .before .before .before .before .before .before .before in
@@ -39,18 +24,6 @@ returns-2 c = let s = c .before .before .before .before .before .before .before 
     let had = counters (s .args .length) (s .args .level) in
     let acts = acts-as w w′ had (c .enum-told .given .1) (c .before .before .before .before .propagate .ensures .0) in
     changes-refused w had propagate (next-counted w) (s .args .next .now) w′ _ _ acts (coded 9 (omega arith)) refl
-
-enum-known-told : tie.Need-enum-known-told
-enum-known-told c = search needs
-
-put-three-requires : tie.Need-put-three-requires
-put-three-requires c κs = search needs
-
-same-length-3 : tie.Need-same-length-3
-same-length-3 c = search needs
-
-same-length-4 : tie.Need-same-length-4
-same-length-4 c = search needs
 
 returns-3 : tie.Need-returns-3
 returns-3 c = let s = c .before .before .before .before .before .before .before .before .before .before .before .before .before .before in
@@ -63,12 +36,6 @@ returns-3 c = let s = c .before .before .before .before .before .before .before 
     changes-propagated w w′ had _ _ (s .args .next .now) acts (c .before .before .put-three .last .0) 0 refl (omega arith)
     (c .before .before .put-three .ensures) refl
 
-enum-known-told-2 : tie.Need-enum-known-told-2
-enum-known-told-2 c = search needs
-
-put-three-requires-2 : tie.Need-put-three-requires-2
-put-three-requires-2 c κs = search needs
-
 answer-requires : tie.Need-answer-requires
 answer-requires c κs = let s = c .before .before .before .before .before .before .before .before .before .before .before .before .before .before in
     let w = s .args .area .now in
@@ -78,12 +45,6 @@ answer-requires c κs = let s = c .before .before .before .before .before .befor
     acts-as w w′ had (c .before .before .before .before .before .told2 .given .1)
     (c .before .before .before .before .before .before .before .before .before .propagate .ensures .0) in
     (omega arith, omega (arith, conflict-small w had _ (acts .answer)))
-
-same-length-5 : tie.Need-same-length-5
-same-length-5 c = search needs
-
-same-length-6 : tie.Need-same-length-6
-same-length-6 c = search needs
 
 returns-4 : tie.Need-returns-4
 returns-4 c = let s = c .before .before .before .before .before .before .before .before .before .before .before .before .before .before .before in
@@ -100,21 +61,6 @@ pub dalelead-propagate-spec : {M : Type 1} → statement M
 dalelead-propagate-spec =
     tie.close
     (tie.spec
-    propagate-short-requires
-    same-length
-    returns
-    propagate-requires
-    enum-told
-    same-length-2
-    returns-2
-    enum-known-told
-    put-three-requires
-    same-length-3
-    same-length-4
-    returns-3
-    enum-known-told-2
-    put-three-requires-2
-    answer-requires
-    same-length-5
-    same-length-6
-    returns-4)
+    (λ c κs. search needs) (λ c. search needs) returns (λ c κs. search needs) (λ c. search needs) (λ c. search needs) returns-2 (λ c. search needs)
+    (λ c κs. search needs) (λ c. search needs) (λ c. search needs) returns-3 (λ c. search needs) (λ c κs. search needs) answer-requires
+    (λ c. search needs) (λ c. search needs) returns-4)

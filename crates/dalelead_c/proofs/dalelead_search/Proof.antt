@@ -54,14 +54,5 @@ pub dalelead-search-spec : {M : Type 1} → statement M
 dalelead-search-spec =
     tie.close
     (tie.spec
-    (λ c κs. search needs)
-    (λ c. search needs)
-    returns
-    (λ c κs. search needs)
-    (λ c. search needs)
-    returns-2
-    (λ c κs. search needs)
-    answer-requires
-    (λ c. search needs)
-    (λ c. search needs)
-    returns-3)
+    (λ c κs. search needs) (λ c. search needs) returns (λ c κs. search needs) (λ c. search needs) returns-2 (λ c κs. search needs) answer-requires
+    (λ c. search needs) (λ c. search needs) returns-3)

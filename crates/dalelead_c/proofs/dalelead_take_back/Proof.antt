@@ -13,29 +13,11 @@ use borrow.Author.Needs.{needs}
 use Rattle.dalelead_c.proofs.dalelead_take_back.Statement.{statement}
 use Rattle.dalelead_c.proofs.dalelead_take_back.Tie as tie
 
-take-back-short-requires : tie.Need-take-back-short-requires
-take-back-short-requires c κs = search needs
-
-same-length : tie.Need-same-length
-same-length c = search needs
-
 returns : tie.Need-returns
 returns c = let s = c .before .before .before .before .before in
     changes-short (s .args .area .now) (counters (s .args .length) (s .args .level)) (take-back (s .args .k)) next-counters (s .args .next .now) 2
     (c .take-back-short .result) refl (omega arith)
     (c .take-back-short .ensures)
-
-take-back-requires : tie.Need-take-back-requires
-take-back-requires c κs = search needs
-
-finish-requires : tie.Need-finish-requires
-finish-requires c κs = search needs
-
-same-length-2 : tie.Need-same-length-2
-same-length-2 c = search needs
-
-same-length-3 : tie.Need-same-length-3
-same-length-3 c = search needs
 
 returns-2 : tie.Need-returns-2
 returns-2 c = let s = c .before .before .before .before .before .before .before .before .before .before .before in
@@ -53,11 +35,4 @@ pub dalelead-take-back-spec : {M : Type 1} → statement M
 dalelead-take-back-spec =
     tie.close
     (tie.spec
-    take-back-short-requires
-    same-length
-    returns
-    take-back-requires
-    finish-requires
-    same-length-2
-    same-length-3
-    returns-2)
+    (λ c κs. search needs) (λ c. search needs) returns (λ c κs. search needs) (λ c κs. search needs) (λ c. search needs) (λ c. search needs) returns-2)

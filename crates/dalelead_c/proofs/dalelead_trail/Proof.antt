@@ -9,9 +9,6 @@ use borrow.Author.Needs.{needs}
 use Rattle.dalelead_c.proofs.dalelead_trail.Statement.{statement}
 use Rattle.dalelead_c.proofs.dalelead_trail.Tie as tie
 
-list-trail-requires : tie.Need-list-trail-requires
-list-trail-requires c κs = search needs
-
 answer-requires : tie.Need-answer-requires
 answer-requires c κs = let s = c .before .before .before .before in
     let w = s .args .area .now in
@@ -20,9 +17,6 @@ answer-requires c κs = let s = c .before .before .before .before in
     let found = c .before .list-trail in
     let l = found .ensures in
     trail-small w had (listed-paper (found .result)) (length old) (l .answer)
-
-same-length : tie.Need-same-length
-same-length c = search needs
 
 returns : tie.Need-returns
 returns c = let s = c .before .before .before .before .before in
@@ -34,4 +28,6 @@ returns c = let s = c .before .before .before .before .before in
     reports-list w had (list-trail (length old)) old _ (listed-paper (found .result)) (c .answer .result) l (c .answer .ensures)
 
 pub dalelead-trail-spec : {M : Type 1} → statement M
-dalelead-trail-spec = tie.close (tie.spec list-trail-requires answer-requires same-length returns)
+dalelead-trail-spec = tie.close
+    (tie.spec
+    (λ c κs. search needs) answer-requires (λ c. search needs) returns)

@@ -28,9 +28,6 @@ whole c = granted (c .before .is-whole .ensures) (c .if1 .left)
 told-size : (c : tie.After-size) → c .size .result ≡ atom (c .before .before .before .before .before .args .literal)
 told-size c = let s = c .before .before .before .before .before in told-atom (s .args .literal) (s .fits .literal) (c .size .ensures)
 
-is-whole-requires : tie.Need-is-whole-requires
-is-whole-requires c κs = search needs
-
 returns : tie.Need-returns
 returns c = let s = c .before .before .before in
     short-broken (s .args .area .now) (counters (s .args .length) (s .args .level)) (give (s .args .literal)) 2
@@ -38,9 +35,6 @@ returns c = let s = c .before .before .before in
 
 shared-slice-read-n : tie.Need-shared-slice-read-n
 shared-slice-read-n c = let h = whole (c .before) in omega (arith, h .enough, h .theory .atoms-low)
-
-size-requires : tie.Need-size-requires
-size-requires c κs = search needs
 
 returns-2 : tie.Need-returns-2
 returns-2 c = let s = c .before .before .before .before .before .before in
@@ -62,15 +56,6 @@ returns-3 c = let s = c .before .before .before .before .before .before .before 
     let e = told-size (c .before .before) in
     short-refused w had (give l) 2 h 10 (omega arith) (give-high base w had u l (omega (arith, e, c .if3 .taken)) .answer .told h)
 
-sub-if4 : tie.Need-sub-if4
-sub-if4 c = search needs
-
-add-if4 : tie.Need-add-if4
-add-if4 c = search needs
-
-mul-if4 : tie.Need-mul-if4
-mul-if4 c = search needs
-
 shared-slice-read-if4 : tie.Need-shared-slice-read-if4
 shared-slice-read-if4 c =
     let h = whole (c .before .before .before .before .before) in omega (arith, h .enough, h .theory .atoms-low, c .before .if3 .left)
@@ -87,9 +72,6 @@ returns-4 c = let s = c .before .before .before .before .before .before .before 
     let high : atom l ≤ atoms-of w = omega (arith, e, c .before .before .if3 .left) in
     short-refused w had (give l) 2 h 11 (omega arith)
     (give-taken base w had u l low high (λ z. c .if4 .taken (ap {A = ℕ} (value-at w (atoms-of w)) e ∙ z)) .answer .told h)
-
-answer-requires : tie.Need-answer-requires
-answer-requires c κs = search needs
 
 returns-5 : tie.Need-returns-5
 returns-5 c = let s = c .before .before .before .before .before .before .before .before .before .before in
@@ -109,16 +91,5 @@ pub give-short-spec : {M : Type 1} → statement M
 give-short-spec =
     tie.close
     (tie.spec
-    is-whole-requires
-    returns
-    shared-slice-read-n
-    size-requires
-    returns-2
-    returns-3
-    sub-if4
-    add-if4
-    mul-if4
-    shared-slice-read-if4
-    returns-4
-    answer-requires
-    returns-5)
+    (λ c κs. search needs) returns shared-slice-read-n (λ c κs. search needs) returns-2 returns-3 (λ c. search needs) (λ c. search needs)
+    (λ c. search needs) shared-slice-read-if4 returns-4 (λ c κs. search needs) returns-5)

@@ -6,9 +6,6 @@ use borrow.Author.Needs.{needs}
 use Rattle.dalelead_c.proofs.is_whole.Statement.{statement}
 use Rattle.dalelead_c.proofs.is_whole.Tie as tie
 
-base-requires : tie.Need-base-requires
-base-requires c κs = search needs
-
 is-whole-requires : tie.Need-is-whole-requires
 is-whole-requires c κs = subst Fitting (sym (c .base .ensures)) base-fits
 
@@ -16,4 +13,6 @@ returns : tie.Need-returns
 returns c = rw (c .before .base .ensures) at (c .is-whole .ensures)
 
 pub is-whole-spec : {M : Type 1} → statement M
-is-whole-spec = tie.close (tie.spec base-requires is-whole-requires returns)
+is-whole-spec = tie.close
+    (tie.spec
+    (λ c κs. search needs) is-whole-requires returns)

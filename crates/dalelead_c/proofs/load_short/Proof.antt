@@ -26,9 +26,6 @@ told c =
     c .refusal .ensures
     ∙ ap (λ (l : Limits). load-answer l (start c .args .words) (start c .args .atoms) (cols (start c))) (c .before .base .ensures)
 
-base-requires : tie.Need-base-requires
-base-requires c κs = search needs
-
 refusal-requires : tie.Need-refusal-requires
 refusal-requires c κs = subst Fitting (sym (c .base .ensures)) base-fits
 
@@ -41,9 +38,6 @@ returns c =
     c .answer .ensures ∙ sym (told-refused (c .before .before .before .refusal .result) 0 (c .before .if1 .taken))
     ∙ ap (λ (a : Answer). load-told a 0) (told (c .before .before .before))
 
-answer-requires-2 : tie.Need-answer-requires-2
-answer-requires-2 c κs = search needs
-
 returns-2 : tie.Need-returns-2
 returns-2 c =
     c .answer2 .ensures ∙ sym (told-short (c .before .before .before .refusal .result) 0 (c .before .if1 .left) (omega arith))
@@ -52,4 +46,5 @@ returns-2 c =
 pub load-short-spec : {M : Type 1} → statement M
 load-short-spec =
     tie.close
-    (tie.spec base-requires refusal-requires answer-requires returns answer-requires-2 returns-2)
+    (tie.spec
+    (λ c κs. search needs) refusal-requires answer-requires returns (λ c κs. search needs) returns-2)

@@ -22,16 +22,10 @@ whole : (c : tie.Else1)
     → Whole base (c .before .before .before .args .area .now) (counters (c .before .before .before .args .length) (c .before .before .before .args .level))
 whole c = granted (c .before .is-whole .ensures) (c .if1 .left)
 
-is-whole-requires : tie.Need-is-whole-requires
-is-whole-requires c κs = search needs
-
 returns : tie.Need-returns
 returns c = let s = c .before .before .before in
     short-broken (s .args .area .now) (counters (s .args .length) (s .args .level)) (open-level) 2
     (denied (c .before .is-whole .ensures) (c .if1 .taken))
-
-base-requires : tie.Need-base-requires
-base-requires c κs = search needs
 
 returns-2 : tie.Need-returns-2
 returns-2 c = let s = c .before .before .before .before .before .before in
@@ -40,9 +34,6 @@ returns-2 c = let s = c .before .before .before .before .before .before in
     let h = whole (c .before .before .before) in
     let highest : 1024 ≤ level-of w = omega (arith, h .level-is, c .if2 .taken, ap (λ (l : Limits). l .levels) (c .before .before .base .ensures)) in
     short-refused w had open-level 2 h 14 (omega arith) (ap (λ (o : Outcome). paper (o .answer)) (sym (open-refused base w highest)))
-
-answer-requires : tie.Need-answer-requires
-answer-requires c κs = search needs
 
 returns-3 : tie.Need-returns-3
 returns-3 c = let s = c .before .before .before .before .before .before .before in
@@ -57,4 +48,5 @@ returns-3 c = let s = c .before .before .before .before .before .before .before 
 pub open-short-spec : {M : Type 1} → statement M
 open-short-spec =
     tie.close
-    (tie.spec is-whole-requires returns base-requires returns-2 answer-requires returns-3)
+    (tie.spec
+    (λ c κs. search needs) returns (λ c κs. search needs) returns-2 (λ c κs. search needs) returns-3)

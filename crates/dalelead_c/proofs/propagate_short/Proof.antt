@@ -17,16 +17,10 @@ whole : (c : tie.Else1)
     → Whole base (c .before .before .before .args .area .now) (counters (c .before .before .before .args .length) (c .before .before .before .args .level))
 whole c = granted (c .before .is-whole .ensures) (c .if1 .left)
 
-is-whole-requires : tie.Need-is-whole-requires
-is-whole-requires c κs = search needs
-
 returns : tie.Need-returns
 returns c = let s = c .before .before .before in
     short-broken (s .args .area .now) (counters (s .args .length) (s .args .level)) (propagate) 3
     (denied (c .before .is-whole .ensures) (c .if1 .taken))
-
-answer-requires : tie.Need-answer-requires
-answer-requires c κs = search needs
 
 returns-2 : tie.Need-returns-2
 returns-2 c = let s = c .before .before .before .before in
@@ -36,4 +30,6 @@ returns-2 c = let s = c .before .before .before .before in
     short-passed w had propagate 3 h (propagate-plain (area-state base w)) (propagate-passes w) (omega arith) (c .answer .result) (c .answer .ensures)
 
 pub propagate-short-spec : {M : Type 1} → statement M
-propagate-short-spec = tie.close (tie.spec is-whole-requires returns answer-requires returns-2)
+propagate-short-spec = tie.close
+    (tie.spec
+    (λ c κs. search needs) returns (λ c κs. search needs) returns-2)

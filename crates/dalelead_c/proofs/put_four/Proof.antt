@@ -6,14 +6,10 @@ use borrow.Author.Needs.{needs}
 use Rattle.dalelead_c.proofs.put_four.Statement.{statement}
 use Rattle.dalelead_c.proofs.put_four.Tie as tie
 
-slice-write-next-2 : tie.Need-slice-write-next-2
-slice-write-next-2 c = simp length-set (omega arith)
-
-slice-write-next-3 : tie.Need-slice-write-next-3
-slice-write-next-3 c = simp length-set (omega arith)
-
 returns : tie.Need-returns
 returns c = four-front (c .args .next .now) (c .args .a) (c .args .b) (c .args .c) (c .args .d) (c .pre)
 
 pub put-four-spec : {M : Type 1} → statement M
-put-four-spec = tie.close (tie.spec (λ c. search needs) slice-write-next-2 slice-write-next-3 (λ c. search needs) (λ c. search needs) returns)
+put-four-spec = tie.close
+    (tie.spec
+    (λ c. search needs) (λ c. simp length-set (omega arith)) (λ c. simp length-set (omega arith)) (λ c. search needs) (λ c. search needs) returns)

@@ -48,10 +48,4 @@ pub search-short-spec : {M : Type 1} → statement M
 search-short-spec =
     tie.close
     (tie.spec
-    (λ c κs. search needs)
-    returns
-    shared-slice-read-n
-    (λ c κs. search needs)
-    returns-2
-    (λ c κs. search needs)
-    returns-3)
+    (λ c κs. search needs) returns shared-slice-read-n (λ c κs. search needs) returns-2 (λ c κs. search needs) returns-3)

@@ -19,9 +19,6 @@ whole : (c : tie.Else1)
     → Whole base (c .before .before .before .args .area .now) (counters (c .before .before .before .args .length) (c .before .before .before .args .level))
 whole c = granted (c .before .is-whole .ensures) (c .if1 .left)
 
-is-whole-requires : tie.Need-is-whole-requires
-is-whole-requires c κs = search needs
-
 returns : tie.Need-returns
 returns c = let s = c .before .before .before in
     short-broken (s .args .area .now) (counters (s .args .length) (s .args .level)) (take-back (s .args .k)) 2
@@ -35,9 +32,6 @@ returns-2 c = let s = c .before .before .before .before in
     short-refused w had (take-back (s .args .k)) 2 h 15 (omega arith)
     (ap (λ (o : Outcome). paper (o .answer)) (sym (take-back-refused base w (s .args .k) (omega (arith, h .level-is, c .if2 .taken)))))
 
-answer-requires : tie.Need-answer-requires
-answer-requires c κs = search needs
-
 returns-3 : tie.Need-returns-3
 returns-3 c = let s = c .before .before .before .before .before in
     let w = s .args .area .now in
@@ -49,4 +43,6 @@ returns-3 c = let s = c .before .before .before .before .before in
 
 pub take-back-short-spec : {M : Type 1} → statement M
 take-back-short-spec =
-    tie.close (tie.spec is-whole-requires returns returns-2 answer-requires returns-3)
+    tie.close
+    (tie.spec
+    (λ c κs. search needs) returns returns-2 (λ c κs. search needs) returns-3)

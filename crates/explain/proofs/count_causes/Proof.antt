@@ -16,29 +16,11 @@ Inv-loop area n count base limit merged found₀ place₀ found place =
 abbrev μ-loop : tie.MeasureT-loop
 μ-loop area n count base limit merged found₀ place₀ found place = merged + 1 - place
 
-add-merged : tie.Need-add-merged Inv-loop μ-loop
-add-merged c = search needs
-
-mul-merged : tie.Need-mul-merged Inv-loop μ-loop
-mul-merged c = search needs
-
-shared-slice-read-merged : tie.Need-shared-slice-read-merged Inv-loop μ-loop
-shared-slice-read-merged c = search needs
-
 loop-holds : tie.Need-loop-holds Inv-loop μ-loop
 loop-holds c = (omega arith, omega arith, omega arith)
 
 cause-at-requires : tie.Need-cause-at-requires Inv-loop μ-loop
 cause-at-requires c κs = (c .before .before .before .before .pre, c .loop-test .taken)
-
-add-found : tie.Need-add-found Inv-loop μ-loop
-add-found c = search needs
-
-add-place : tie.Need-add-place Inv-loop μ-loop
-add-place c = search needs
-
-loop-less : tie.Need-loop-less Inv-loop μ-loop
-loop-less c = search needs
 
 loop-again : tie.Need-loop-again Inv-loop μ-loop
 loop-again c = let s = c .before .before .before .before .before .before in
@@ -63,15 +45,5 @@ pub count-causes-spec : {M : Type 1} → statement M
 count-causes-spec =
     tie.close
     (tie.spec
-    Inv-loop
-    μ-loop
-    add-merged
-    mul-merged
-    shared-slice-read-merged
-    loop-holds
-    cause-at-requires
-    add-found
-    add-place
-    loop-less
-    loop-again
-    returns)
+    Inv-loop μ-loop (λ c. search needs) (λ c. search needs) (λ c. search needs) loop-holds cause-at-requires (λ c. search needs) (λ c. search needs)
+    (λ c. search needs) loop-again returns)

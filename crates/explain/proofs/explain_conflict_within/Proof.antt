@@ -9,9 +9,6 @@ use Rattle.causes.proofs.Listing.{lists-nine, lists-whole}
 use Rattle.explain.proofs.explain_conflict_within.Statement.{statement}
 use Rattle.explain.proofs.explain_conflict_within.Tie as tie
 
-is-whole-requires : tie.Need-is-whole-requires
-is-whole-requires c κs = search needs
-
 returns : tie.Need-returns
 returns c = let s = c .before .before .before .before in
     lists-nine (s .args .lim) (s .args .area .now) (counted (s .args .counters))
@@ -20,9 +17,6 @@ returns c = let s = c .before .before .before .before in
 
 stored-conflict-requires : tie.Need-stored-conflict-requires
 stored-conflict-requires c κs = (c .before .before .before .before .before .pre, granted (c .before .before .is-whole .ensures) (c .before .if1 .left))
-
-same-length : tie.Need-same-length
-same-length c = search needs
 
 returns-2 : tie.Need-returns-2
 returns-2 c = let s = c .before .before .before .before .before .before .before in
@@ -35,4 +29,6 @@ returns-2 c = let s = c .before .before .before .before .before .before .before 
 
 pub explain-conflict-within-spec : {M : Type 1} → statement M
 explain-conflict-within-spec =
-    tie.close (tie.spec is-whole-requires returns stored-conflict-requires same-length returns-2)
+    tie.close
+    (tie.spec
+    (λ c κs. search needs) returns stored-conflict-requires (λ c. search needs) returns-2)

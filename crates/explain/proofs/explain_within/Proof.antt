@@ -12,9 +12,6 @@ use Rattle.causes.proofs.Listing.{lists-nine, lists-whole}
 use Rattle.explain.proofs.explain_within.Statement.{statement}
 use Rattle.explain.proofs.explain_within.Tie as tie
 
-is-whole-requires : tie.Need-is-whole-requires
-is-whole-requires c κs = search needs
-
 returns : tie.Need-returns
 returns c = let s = c .before .before .before .before in
     lists-nine (s .args .lim) (s .args .area .now) (counted (s .args .counters))
@@ -23,9 +20,6 @@ returns c = let s = c .before .before .before .before in
 
 stored-explanation-requires : tie.Need-stored-explanation-requires
 stored-explanation-requires c κs = (c .before .before .before .before .before .pre, granted (c .before .before .is-whole .ensures) (c .before .if1 .left))
-
-same-length : tie.Need-same-length
-same-length c = search needs
 
 returns-2 : tie.Need-returns-2
 returns-2 c = let s = c .before .before .before .before .before .before .before in
@@ -40,4 +34,5 @@ returns-2 c = let s = c .before .before .before .before .before .before .before 
 pub explain-within-spec : {M : Type 1} → statement M
 explain-within-spec =
     tie.close
-    (tie.spec is-whole-requires returns stored-explanation-requires same-length returns-2)
+    (tie.spec
+    (λ c κs. search needs) returns stored-explanation-requires (λ c. search needs) returns-2)

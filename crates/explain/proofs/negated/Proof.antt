@@ -4,9 +4,6 @@ use Rattle.explain.proofs.Opposites.{negated-safe, negated-even, negate
 use Rattle.explain.proofs.negated.Statement.{statement}
 use Rattle.explain.proofs.negated.Tie as tie
 
-cast-atom : tie.Need-cast-atom
-cast-atom c = search needs
-
 sub-result : tie.Need-sub-result
 sub-result c = negated-safe (c .before .args .x) (c .before .fits .x)
 
@@ -17,4 +14,6 @@ returns-2 : tie.Need-returns-2
 returns-2 c = negated-odd (c .before .args .x) (c .before .fits .x) (c .if1 .left)
 
 pub negated-spec : {M : Type 1} → statement M
-negated-spec = tie.close (tie.spec cast-atom sub-result returns returns-2)
+negated-spec = tie.close
+    (tie.spec
+    (λ c. search needs) sub-result returns returns-2)

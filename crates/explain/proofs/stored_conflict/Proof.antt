@@ -23,12 +23,6 @@ Told s r = let w = s .args .area .now in ConflictIs w (atoms-of w) (sentences-of
 told : (c : tie.After-in-conflict) {r : Bool} → c .in-conflict .result ≡ r → Told (c .before .before .before .before .before .before) r
 told c e = subst (Told (c .before .before .before .before .before .before)) e (c .in-conflict .ensures)
 
-shared-slice-read-n : tie.Need-shared-slice-read-n
-shared-slice-read-n c = search needs
-
-shared-slice-read-count : tie.Need-shared-slice-read-count
-shared-slice-read-count c = search needs
-
 returns : tie.Need-returns
 returns c = let s = c .before .before .before .before in
     listing-refused (s .args .lim) (s .args .area .now) (explain-conflict (s .args .sentence .0) (length (s .args .list .now))) (s .args .list .now) 16 0
@@ -39,18 +33,6 @@ returns-2 c = let s = c .before .before .before .before .before in
     listing-refused (s .args .lim) (s .args .area .now) (explain-conflict (s .args .sentence .0) (length (s .args .list .now))) (s .args .list .now) 16 0
     (conflict-past (s .args .lim) (s .args .area .now) (s .args .sentence .0) (length (s .args .list .now)) (c .if2 .taken))
 
-mul-base : tie.Need-mul-base
-mul-base c = search needs
-
-sub-base : tie.Need-sub-base
-sub-base c = search needs
-
-mul-base-2 : tie.Need-mul-base-2
-mul-base-2 c = search needs
-
-add-base : tie.Need-add-base
-add-base c = search needs
-
 in-conflict-requires : tie.Need-in-conflict-requires
 in-conflict-requires c κs = let s = c .before .before .before .before .before in
     comparable (s .pre .0) (s .pre .1) (s .args .sentence .0 - 1) (omega arith)
@@ -59,9 +41,6 @@ returns-3 : tie.Need-returns-3
 returns-3 c = let s = c .before .before .before .before .before .before .before in
     let quiet = told (c .before) (not-true (c .before .in-conflict .result) (c .if3 .taken)) in
     quiet-refused (s .pre .0) (s .pre .1) (s .args .sentence .0) (omega arith) (omega arith) (s .args .list .now) quiet
-
-shared-slice-read-rows : tie.Need-shared-slice-read-rows
-shared-slice-read-rows c = search needs
 
 count-causes-requires : tie.Need-count-causes-requires
 count-causes-requires c κs = let s = c .before .before .before .before .before .before .before .before in
@@ -79,9 +58,6 @@ write-causes-requires c κs = let s = c .before .before .before .before .before 
   omega (arith, c .before .before .count-causes .ensures, c .before .if4 .left),
 )
 
-same-length : tie.Need-same-length
-same-length c = search needs
-
 returns-5 : tie.Need-returns-5
 returns-5 c = let s = c .before .before .before .before .before .before .before .before .before .before .before .before .before in
     let x = c .before .before .before .before .before .before in
@@ -93,19 +69,5 @@ pub stored-conflict-spec : {M : Type 1} → statement M
 stored-conflict-spec =
     tie.close
     (tie.spec
-    shared-slice-read-n
-    shared-slice-read-count
-    returns
-    returns-2
-    mul-base
-    sub-base
-    mul-base-2
-    add-base
-    in-conflict-requires
-    returns-3
-    shared-slice-read-rows
-    count-causes-requires
-    returns-4
-    write-causes-requires
-    same-length
-    returns-5)
+    (λ c. search needs) (λ c. search needs) returns returns-2 (λ c. search needs) (λ c. search needs) (λ c. search needs) (λ c. search needs)
+    in-conflict-requires returns-3 (λ c. search needs) count-causes-requires returns-4 write-causes-requires (λ c. search needs) returns-5)

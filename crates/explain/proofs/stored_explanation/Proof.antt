@@ -66,12 +66,6 @@ refused-by : (s : tie.Start) (k : ℕ) → reply (area-state (s .args .lim) (s .
     → Listing (s .args .lim) (s .args .area .now) (call s) (s .args .list .now) (s .args .list .now) (record { code = k; value = 0 })
 refused-by s k e = listing-refused (s .args .lim) (s .args .area .now) (call s) (s .args .list .now) k 0 e
 
-shared-slice-read-n : tie.Need-shared-slice-read-n
-shared-slice-read-n c = search needs
-
-size-requires : tie.Need-size-requires
-size-requires c κs = search needs
-
 returns : tie.Need-returns
 returns c = let s = c .before .before .before .before in
     refused-by s 10 (explain-zero (s .args .lim) (s .args .area .now) (s .args .literal) (length (s .args .list .now)) (sym (told-size (c .before)) ∙ c .if1 .taken))
@@ -80,9 +74,6 @@ returns-2 : tie.Need-returns-2
 returns-2 c = let s = c .before .before .before .before .before in
     let e = told-size (c .before .before) in
     refused-by s 10 (explain-high (s .args .lim) (s .args .area .now) (s .args .literal) (length (s .args .list .now)) (omega (arith, e, c .if2 .taken)))
-
-shared-slice-read-rows : tie.Need-shared-slice-read-rows
-shared-slice-read-rows c = search needs
 
 position-of-requires : tie.Need-position-of-requires
 position-of-requires c κs = let s = c .before .before .before .before .before .before in
@@ -101,15 +92,6 @@ returns-3 c = let s = c .before .before .before .before .before .before .before 
     (explain-absent (s .args .lim) (s .args .area .now) (s .args .literal) (length (s .args .list .now)) (low x) (high x)
     (told-position (c .before) .absent (c .if3 .taken)))
 
-mul-reason : tie.Need-mul-reason
-mul-reason c = search needs
-
-add-reason : tie.Need-add-reason
-add-reason c = search needs
-
-mul-reason-2 : tie.Need-mul-reason-2
-mul-reason-2 c = search needs
-
 shared-slice-read-reason : tie.Need-shared-slice-read-reason
 shared-slice-read-reason c = let s = c .before .before .before .before .before .before .before .before .before in
     let rows = trail-asked (s .args .lim) (s .args .area .now) (counted (s .args .counters)) (s .pre .0) (s .pre .1) .room .few in
@@ -122,21 +104,6 @@ returns-4 c = let s = c .before .before .before .before .before .before .before 
     (explain-given (s .args .lim) (s .args .area .now) (s .args .literal) (length (s .args .list .now)) (low (x .before .before)) (high (x .before .before))
     (x .position-of .result) (told-position x) (inside (c .before .before)) (c .if4 .taken))
 
-shared-slice-read-count : tie.Need-shared-slice-read-count
-shared-slice-read-count c = search needs
-
-mul-base : tie.Need-mul-base
-mul-base c = search needs
-
-sub-base : tie.Need-sub-base
-sub-base c = search needs
-
-mul-base-2 : tie.Need-mul-base-2
-mul-base-2 c = search needs
-
-add-base : tie.Need-add-base
-add-base c = search needs
-
 count-causes-requires : tie.Need-count-causes-requires
 count-causes-requires c κs = let s = c .before .before .before .before .before .before .before .before .before .before .before in
     reason-asked (s .pre .0) (s .pre .1) (derived (c .before))
@@ -148,9 +115,6 @@ add-needed c = let s = c .before .before .before .before .before .before .before
 returns-5 : tie.Need-returns-5
 returns-5 c = let s = c .before .before .before .before .before .before .before .before .before .before .before .before .before in
     explanation-short (s .pre .0) (s .pre .1) (derived (c .before .before .before)) (s .args .list .now) (c .before .count-causes .ensures) (c .if5 .taken)
-
-slice-set-from-literal : tie.Need-slice-set-from-literal
-slice-set-from-literal c = search needs
 
 write-causes-requires : tie.Need-write-causes-requires
 write-causes-requires c κs = let s = c .before .before .before .before .before .before .before .before .before .before .before .before .before .before in
@@ -174,27 +138,6 @@ pub stored-explanation-spec : {M : Type 1} → statement M
 stored-explanation-spec =
     tie.close
     (tie.spec
-    shared-slice-read-n
-    size-requires
-    returns
-    returns-2
-    shared-slice-read-rows
-    position-of-requires
-    returns-3
-    mul-reason
-    add-reason
-    mul-reason-2
-    shared-slice-read-reason
-    returns-4
-    shared-slice-read-count
-    mul-base
-    sub-base
-    mul-base-2
-    add-base
-    count-causes-requires
-    add-needed
-    returns-5
-    slice-set-from-literal
-    write-causes-requires
-    same-length
-    returns-6)
+    (λ c. search needs) (λ c κs. search needs) returns returns-2 (λ c. search needs) position-of-requires returns-3 (λ c. search needs)
+    (λ c. search needs) (λ c. search needs) shared-slice-read-reason returns-4 (λ c. search needs) (λ c. search needs) (λ c. search needs)
+    (λ c. search needs) (λ c. search needs) count-causes-requires add-needed returns-5 (λ c. search needs) write-causes-requires same-length returns-6)

@@ -21,35 +21,11 @@ Inv-loop area n count base limit list₀ start merged at₀ place₀ list at pla
 abbrev μ-loop : tie.MeasureT-loop
 μ-loop area n count base limit list₀ start merged at₀ place₀ list at place = merged + 1 - place
 
-add-merged : tie.Need-add-merged Inv-loop μ-loop
-add-merged c = search needs
-
-mul-merged : tie.Need-mul-merged Inv-loop μ-loop
-mul-merged c = search needs
-
-shared-slice-read-merged : tie.Need-shared-slice-read-merged Inv-loop μ-loop
-shared-slice-read-merged c = search needs
-
 loop-holds : tie.Need-loop-holds Inv-loop μ-loop
 loop-holds c = (omega arith, writing-starts)
 
 cause-at-requires : tie.Need-cause-at-requires Inv-loop μ-loop
 cause-at-requires c κs = (c .before .before .before .before .pre .0, c .loop-test .taken)
-
-mul-negated : tie.Need-mul-negated Inv-loop μ-loop
-mul-negated c = search needs
-
-add-negated : tie.Need-add-negated Inv-loop μ-loop
-add-negated c = search needs
-
-mul-negated-2 : tie.Need-mul-negated-2 Inv-loop μ-loop
-mul-negated-2 c = search needs
-
-shared-slice-read-negated : tie.Need-shared-slice-read-negated Inv-loop μ-loop
-shared-slice-read-negated c = search needs
-
-negated-requires : tie.Need-negated-requires Inv-loop μ-loop
-negated-requires c κs = search needs
 
 -- there is room for one literal more
 fits-here : (c : tie.After-negated Inv-loop μ-loop)
@@ -60,20 +36,8 @@ fits-here c =
     room-here (s .pre .0) (p .loop .place) (c .before .before .before .before .loop-test .taken) (c .before .before .before .cause-at .ensures) (p .loop .inv .1)
     (s .pre .1) (c .before .before .if1 .taken)
 
-mul-t24 : tie.Need-mul-t24 Inv-loop μ-loop
-mul-t24 c = omega (arith, fits-here c)
-
 slice-set-from-list : tie.Need-slice-set-from-list Inv-loop μ-loop
 slice-set-from-list c = fits-here c
-
-add-at : tie.Need-add-at Inv-loop μ-loop
-add-at c = omega (arith, fits-here c)
-
-add-place : tie.Need-add-place Inv-loop μ-loop
-add-place c = search needs
-
-loop-less : tie.Need-loop-less Inv-loop μ-loop
-loop-less c = search needs
 
 loop-again : tie.Need-loop-again Inv-loop μ-loop
 loop-again c = let s = c .before .before .before .before .before .before in
@@ -93,9 +57,6 @@ loop-again c = let s = c .before .before .before .before .before .before in
           (c .if1 .came),
     )
 
-same-length : tie.Need-same-length Inv-loop μ-loop
-same-length c = c .before .loop .inv .1 .size
-
 returns : tie.Need-returns Inv-loop μ-loop
 returns c = writing-ends (c .before .before .before .before .pre .0) (c .loop-test .left) (c .before .loop .inv .1)
 
@@ -103,23 +64,6 @@ pub write-causes-spec : {M : Type 1} → statement M
 write-causes-spec =
     tie.close
     (tie.spec
-    Inv-loop
-    μ-loop
-    add-merged
-    mul-merged
-    shared-slice-read-merged
-    loop-holds
-    cause-at-requires
-    mul-negated
-    add-negated
-    mul-negated-2
-    shared-slice-read-negated
-    negated-requires
-    mul-t24
-    slice-set-from-list
-    add-at
-    add-place
-    loop-less
-    loop-again
-    same-length
-    returns)
+    Inv-loop μ-loop (λ c. search needs) (λ c. search needs) (λ c. search needs) loop-holds cause-at-requires (λ c. search needs) (λ c. search needs)
+    (λ c. search needs) (λ c. search needs) (λ c κs. search needs) (λ c. omega (arith, fits-here c)) slice-set-from-list
+    (λ c. omega (arith, fits-here c)) (λ c. search needs) (λ c. search needs) loop-again (λ c. c .before .loop .inv .1 .size) returns)

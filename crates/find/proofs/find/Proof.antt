@@ -32,46 +32,10 @@ sentences-holds c = (omega arith, refl, silent-start (c .before .args .area .now
 known-of-requires : tie.Need-known-of-requires Inv-loop μ-loop Inv-sentences μ-sentences
 known-of-requires c κs = (c .before .before .before .pre, c .sentences-test .taken)
 
-enum-told : tie.Need-enum-told Inv-loop μ-loop Inv-sentences μ-sentences
-enum-told c = search needs
-
-enum-told-2 : tie.Need-enum-told-2 Inv-loop μ-loop Inv-sentences μ-sentences
-enum-told-2 c = search needs
-
-enum-known-l : tie.Need-enum-known-l Inv-loop μ-loop Inv-sentences μ-sentences
-enum-known-l c = search needs
-
-enum-known-body : tie.Need-enum-known-body Inv-loop μ-loop Inv-sentences μ-sentences
-enum-known-body c = search needs
-
 loop-holds : tie.Need-loop-holds Inv-loop μ-loop Inv-sentences μ-sentences
 loop-holds c =
     let k = known-here (c .before .before .before .known-of .ensures) (c .before .body .given .1) in
     (omega arith, c .before .before .before .before .before .sentences .inv .1, k .placed .entries, scan-starts (k .placed))
-
-mul-at : tie.Need-mul-at Inv-loop μ-loop Inv-sentences μ-sentences
-mul-at c = search needs
-
-add-at : tie.Need-add-at Inv-loop μ-loop Inv-sentences μ-sentences
-add-at c = search needs
-
-mul-w : tie.Need-mul-w Inv-loop μ-loop Inv-sentences μ-sentences
-mul-w c = search needs
-
-shared-slice-read-w : tie.Need-shared-slice-read-w Inv-loop μ-loop Inv-sentences μ-sentences
-shared-slice-read-w c = search needs
-
-add-l : tie.Need-add-l Inv-loop μ-loop Inv-sentences μ-sentences
-add-l c = search needs
-
-mul-l : tie.Need-mul-l Inv-loop μ-loop Inv-sentences μ-sentences
-mul-l c = search needs
-
-shared-slice-read-l : tie.Need-shared-slice-read-l Inv-loop μ-loop Inv-sentences μ-sentences
-shared-slice-read-l c = search needs
-
-sub-v : tie.Need-sub-v Inv-loop μ-loop Inv-sentences μ-sentences
-sub-v c = search needs
 
 add-v : tie.Need-add-v Inv-loop μ-loop Inv-sentences μ-sentences
 add-v c = omega (arith, c .before .before .before .loop .inv .2 .values, c .before .before .before .loop .inv .2 .atom-high (c .before .before .before .loop .i) (c .before .before .loop-test .taken))
@@ -85,9 +49,6 @@ shared-slice-read-v c = omega (arith, c .before .before .before .before .loop .i
 entry-turns-requires : tie.Need-entry-turns-requires Inv-loop μ-loop Inv-sentences μ-sentences
 entry-turns-requires c κs = scan-turns (c .before .before .before .before .loop .i) (c .before .before .before .loop-test .taken) (c .before .before .before .before .loop .inv .2) (c .before .before .before .before .loop .inv .3)
 
-add-place : tie.Need-add-place Inv-loop μ-loop Inv-sentences μ-sentences
-add-place c = search needs
-
 entry-wanted-requires : tie.Need-entry-wanted-requires Inv-loop μ-loop Inv-sentences μ-sentences
 entry-wanted-requires c κs =
     let e = c .before .before .before .before .before .before .loop .inv .2 in
@@ -95,24 +56,12 @@ entry-wanted-requires c κs =
     let h = c .before .before .before .before .before .loop-test .taken in
     (e .literal i h, omega (arith, e .values, e .atom-high i h))
 
-add-i : tie.Need-add-i Inv-loop μ-loop Inv-sentences μ-sentences
-add-i c = search needs
-
-loop-less : tie.Need-loop-less Inv-loop μ-loop Inv-sentences μ-sentences
-loop-less c = search needs
-
 loop-again : tie.Need-loop-again Inv-loop μ-loop Inv-sentences μ-sentences
 loop-again c =
     let e = c .before .before .before .before .before .before .loop .inv .2 in
     let i = c .before .before .before .before .before .before .loop .i in
     let h = c .before .before .before .before .before .loop-test .taken in
     (omega arith, c .before .before .before .before .before .before .loop .inv .1, e, scan-next i h e (c .before .before .before .before .before .before .loop .inv .3) (sym (c .before .entry-turns .ensures) ∙ c .if1 .left))
-
-add-s : tie.Need-add-s Inv-loop μ-loop Inv-sentences μ-sentences
-add-s c = search needs
-
-sentences-less : tie.Need-sentences-less Inv-loop μ-loop Inv-sentences μ-sentences
-sentences-less c = search needs
 
 sentences-again : tie.Need-sentences-again Inv-loop μ-loop Inv-sentences μ-sentences
 sentences-again c =
@@ -159,38 +108,8 @@ pub find-spec : {M : Type 1} → statement M
 find-spec =
     tie.close
     (tie.spec
-    Inv-loop
-    μ-loop
-    Inv-sentences
-    μ-sentences
-    sentences-holds
-    known-of-requires
-    enum-told
-    enum-told-2
-    enum-known-l
-    enum-known-body
-    loop-holds
-    mul-at
-    add-at
-    mul-w
-    shared-slice-read-w
-    add-l
-    mul-l
-    shared-slice-read-l
-    sub-v
-    add-v
-    mul-v
-    shared-slice-read-v
-    entry-turns-requires
-    add-place
-    entry-wanted-requires
-    add-i
-    loop-less
-    loop-again
-    add-s
-    sentences-less
-    sentences-again
-    returns
-    returns-2
-    returns-3
-    returns-4)
+    Inv-loop μ-loop Inv-sentences μ-sentences sentences-holds known-of-requires (λ c. search needs) (λ c. search needs) (λ c. search needs)
+    (λ c. search needs) loop-holds (λ c. search needs) (λ c. search needs) (λ c. search needs) (λ c. search needs) (λ c. search needs)
+    (λ c. search needs) (λ c. search needs) (λ c. search needs) add-v mul-v shared-slice-read-v entry-turns-requires (λ c. search needs)
+    entry-wanted-requires (λ c. search needs) (λ c. search needs) loop-again (λ c. search needs) (λ c. search needs) sentences-again returns returns-2
+    returns-3 returns-4)

@@ -71,12 +71,6 @@ slice-aggregate-load-2 c =
     let start = c .before .before .before .before .before .before .before .before .before .before .before in
     sym (length-take-le _ _ (literals-inside (start .args .copied) _ (start .good .1 .1 .1 .1 .1 .1 .1 .0) (omega arith)))
 
-load-requires : tie.Need-load-requires
-load-requires c κs = search needs
-
-same-length : tie.Need-same-length
-same-length c = search needs
-
 returns-2 : tie.Need-returns-2
 returns-2 c =
     let start = c .before .before .before .before .before .before .before .before .before .before .before .before .before .before in
@@ -86,11 +80,5 @@ pub load-copied-spec : {M : Type 1} → statement M
 load-copied-spec =
     tie.close
     (tie.spec
-    returns
-    array-share-prefix-weights
-    slice-aggregate-load
-    array-share-prefix-literals
-    slice-aggregate-load-2
-    load-requires
-    same-length
-    returns-2)
+    returns array-share-prefix-weights slice-aggregate-load array-share-prefix-literals slice-aggregate-load-2 (λ c κs. search needs)
+    (λ c. search needs) returns-2)

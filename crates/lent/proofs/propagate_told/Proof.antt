@@ -12,32 +12,11 @@ use Rattle.lent.proofs.propagate_told.Tie as tie
 told : {a b : Propagated} {w w′ : List ℕ} {c : Counters} → a ≡ b → Propagates w w′ c a → Propagates w w′ c b
 told {a} {b} {w} {w′} {c} e = subst (λ (x : Propagated). Propagates w w′ c x) e
 
-propagate-requires : tie.Need-propagate-requires
-propagate-requires c κs = search needs
-
-enum-known-answer : tie.Need-enum-known-answer
-enum-known-answer c = search needs
-
-enum-known-answer-2 : tie.Need-enum-known-answer-2
-enum-known-answer-2 c = search needs
-
-enum-known-answer-3 : tie.Need-enum-known-answer-3
-enum-known-answer-3 c = search needs
-
-same-length : tie.Need-same-length
-same-length c = search needs
-
 returns : tie.Need-returns
 returns c = told (c .before .answer .given .1) (c .before .before .before .before .before .propagate .ensures) .0
 
-same-length-2 : tie.Need-same-length-2
-same-length-2 c = search needs
-
 returns-2 : tie.Need-returns-2
 returns-2 c = told (c .before .answer2 .given .1) (c .before .before .before .before .before .propagate .ensures) .0
-
-same-length-3 : tie.Need-same-length-3
-same-length-3 c = search needs
 
 returns-3 : tie.Need-returns-3
 returns-3 c = told (c .before .answer3 .given .1) (c .before .before .before .before .before .propagate .ensures) .0
@@ -46,13 +25,5 @@ pub propagate-told-spec : {M : Type 1} → statement M
 propagate-told-spec =
     tie.close
     (tie.spec
-    propagate-requires
-    enum-known-answer
-    enum-known-answer-2
-    enum-known-answer-3
-    same-length
-    returns
-    same-length-2
-    returns-2
-    same-length-3
-    returns-3)
+    (λ c κs. search needs) (λ c. search needs) (λ c. search needs) (λ c. search needs) (λ c. search needs) returns (λ c. search needs) returns-2
+    (λ c. search needs) returns-3)

@@ -9,21 +9,6 @@ returns : tie.Need-returns
 returns c = let s = c .before .before .before in
     open-stops (s .args .lim) (s .args .area .now) (s .args .counters .length) (s .args .counters .level .0) (s .pre .fitting) (s .pre .whole) (omega arith)
 
-slice-read-n : tie.Need-slice-read-n
-slice-read-n c = search needs
-
-add-set-header : tie.Need-add-set-header
-add-set-header c = search needs
-
-set-header-requires : tie.Need-set-header-requires
-set-header-requires c κs = search needs
-
-add-t11 : tie.Need-add-t11
-add-t11 c = search needs
-
-same-length : tie.Need-same-length
-same-length c = search needs
-
 returns-2 : tie.Need-returns-2
 returns-2 c = let s = c .before .before .before .before .before .before .before .before in
     open-raises (s .args .lim) (s .args .area .now) (s .args .counters .length) (s .args .counters .level .0) (s .pre .fitting) (s .pre .whole) (omega arith) _ (c .before .before .set-header .ensures)
@@ -32,10 +17,4 @@ pub open-whole-spec : {M : Type 1} → statement M
 open-whole-spec =
     tie.close
     (tie.spec
-    returns
-    slice-read-n
-    add-set-header
-    set-header-requires
-    add-t11
-    same-length
-    returns-2)
+    returns (λ c. search needs) (λ c. search needs) (λ c κs. search needs) (λ c. search needs) (λ c. search needs) returns-2)

@@ -15,31 +15,13 @@ returns-2 : tie.Need-returns-2
 returns-2 c = let s = c .before .before .before in
     take-back-stays (s .args .lim) (s .args .area .now) (s .args .counters .length) (s .args .counters .level .0) (s .args .k) (s .pre .fitting) (s .pre .whole) (omega arith)
 
-slice-read-n : tie.Need-slice-read-n
-slice-read-n c = search needs
-
-slice-read-count : tie.Need-slice-read-count
-slice-read-count c = search needs
-
-slice-aggregate-cut : tie.Need-slice-aggregate-cut
-slice-aggregate-cut c = search needs
-
 cut-requires : tie.Need-cut-requires
 cut-requires c κs = let s = c .before .before .before .before .before .before .before in
     (record { lim = s .args .lim; level = s .args .counters .level .0; standing = whole-stands (s .args .lim) (s .args .area .now) (s .args .counters .length) (s .args .counters .level .0) (s .pre .fitting) (s .pre .whole) }, refl)
 
-set-header-requires : tie.Need-set-header-requires
-set-header-requires c κs = search needs
-
-slice-aggregate-refresh : tie.Need-slice-aggregate-refresh
-slice-aggregate-refresh c = search needs
-
 refresh-requires : tie.Need-refresh-requires
 refresh-requires c κs = let s = c .before .before .before .before .before .before .before .before .before .before .before .before .before .before .before .before .before in
     (s .args .lim, lowered-refreshable (s .args .lim) (s .args .area .now) (s .args .counters .length) (s .args .counters .level .0) (s .args .k) (s .pre .fitting) (s .pre .whole) (omega arith) _ _ _ (c .before .before .before .before .before .before .before .before .before .cut .ensures) _ (c .before .before .before .before .set-header .ensures))
-
-same-length : tie.Need-same-length
-same-length c = search needs
 
 returns-3 : tie.Need-returns-3
 returns-3 c = let s = c .before .before .before .before .before .before .before .before .before .before .before .before .before .before .before .before .before .before .before .before in
@@ -49,14 +31,5 @@ pub take-back-whole-spec : {M : Type 1} → statement M
 take-back-whole-spec =
     tie.close
     (tie.spec
-    returns
-    returns-2
-    slice-read-n
-    slice-read-count
-    slice-aggregate-cut
-    cut-requires
-    set-header-requires
-    slice-aggregate-refresh
-    refresh-requires
-    same-length
-    returns-3)
+    returns returns-2 (λ c. search needs) (λ c. search needs) (λ c. search needs) cut-requires (λ c κs. search needs) (λ c. search needs)
+    refresh-requires (λ c. search needs) returns-3)

@@ -21,17 +21,11 @@ abbrev μ-loop : tie.MeasureT-loop
 loop-holds : tie.Need-loop-holds Inv-loop μ-loop
 loop-holds c = (omega arith, heads-none (c .before .args .area .now) (c .before .args .variables) (c .before .pre .whole))
 
-add-k : tie.Need-add-k Inv-loop μ-loop
-add-k c = omega arith
-
 add-give-whole : tie.Need-add-give-whole Inv-loop μ-loop
 add-give-whole c = let s = c .before .before .before .before in omega (arith, s .pre .few)
 
 give-whole-requires : tie.Need-give-whole-requires Inv-loop μ-loop
 give-whole-requires c κs = (base, record { fitting = base-fits; whole = c .before .before .loop .inv .1 .stands .whole })
-
-loop-less : tie.Need-loop-less Inv-loop μ-loop
-loop-less c = omega arith
 
 loop-again : tie.Need-loop-again Inv-loop μ-loop
 loop-again c = let l = c .before .before .before .before .before .before .loop in let s = c .before .before .before .before .before .before .before .before in let head = s .args .variables + (l .k + 1) in let g = l .inv .1 in (
@@ -40,9 +34,6 @@ loop-again c = let l = c .before .before .before .before .before .before .loop i
       (c .before .before .before .give-whole .ensures base (record { fitting = base-fits; whole = g .stands .whole })),
 )
 
-same-length : tie.Need-same-length Inv-loop μ-loop
-same-length c = c .before .loop .inv .1 .size
-
 returns : tie.Need-returns Inv-loop μ-loop
 returns c = let i = c .before .loop .inv in heads-all (omega (arith, i .0)) (i .1)
 
@@ -50,14 +41,5 @@ pub give-heads-spec : {M : Type 1} → statement M
 give-heads-spec =
     tie.close
     (tie.spec
-    Inv-loop
-    μ-loop
-    loop-holds
-    add-k
-    add-give-whole
-    (λ c. search needs)
-    give-whole-requires
-    loop-less
-    loop-again
-    same-length
-    returns)
+    Inv-loop μ-loop loop-holds (λ c. omega arith) add-give-whole (λ c. search needs) give-whole-requires (λ c. omega arith) loop-again
+    (λ c. c .before .loop .inv .1 .size) returns)

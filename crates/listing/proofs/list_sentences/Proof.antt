@@ -13,9 +13,6 @@ give-heads-requires : tie.Need-give-heads-requires
 give-heads-requires c κs = let s = c .before .before .before .before .before .before .before .before .before .before .before .before in
     heads-asked (s .args .variables) (s .args .constraints) refl (c .before .before .before .before .before .load .ensures) (c .before .if1 .left) (s .pre)
 
-put-listing-requires : tie.Need-put-listing-requires
-put-listing-requires c κs = c .before .before .before .give-heads .ensures .stands .whole
-
 returns-2 : tie.Need-returns-2
 returns-2 c = let a = c .before .before .before .before .before .before .before .before .before .before .before .before .before .before .before .before .before .before .before .before .args in
     listing-answered (a .variables) (a .constraints) refl (c .before .before .before .before .before .before .before .before .before .before .before .before .before .load .ensures) (c .before .before .before .before .before .before .before .before .before .if1 .left) (c .before .before .before .before .before .before .before .give-heads .ensures) (c .before .before .before .put-listing .ensures)
@@ -24,16 +21,6 @@ pub list-sentences-spec : {M : Type 1} → statement M
 list-sentences-spec =
     tie.close
     (tie.spec
-    (λ c. search needs)
-    (λ c. search needs)
-    (λ c κs. search needs)
-    (λ c. search needs)
-    (λ c κs. search needs)
-    (λ c. search needs)
-    returns
-    (λ c. search needs)
-    give-heads-requires
-    (λ c. search needs)
-    put-listing-requires
-    (λ c. search needs)
-    returns-2)
+    (λ c. search needs) (λ c. search needs) (λ c κs. search needs) (λ c. search needs) (λ c κs. search needs) (λ c. search needs) returns
+    (λ c. search needs) give-heads-requires (λ c. search needs) (λ c κs. c .before .before .before .give-heads .ensures .stands .whole)
+    (λ c. search needs) returns-2)

@@ -32,9 +32,6 @@ loop-again : tie.Need-loop-again Inv-loop μ-loop
 loop-again c = let l = c .before .before .before .before .before .before .before .loop in let s = c .before .before .before .before .stored-bounds in
     (omega arith, bound-more (c .before .before .before .before .before .before .before .before .before .before .args .area .now) (l .k) (s .result) (c .before .before .before .before .before .base .ensures) (s .ensures) (l .inv .1) (c .before .before .put-bound .ensures))
 
-same-length : tie.Need-same-length Inv-loop μ-loop
-same-length c = c .before .loop .inv .1 .size
-
 returns : tie.Need-returns Inv-loop μ-loop
 returns c = let i = c .before .loop .inv in
     counted-up (bound-lines (area-state base (c .before .before .before .before .args .area .now))) (omega (arith, i .0)) (i .1)
@@ -43,14 +40,5 @@ pub put-bounds-spec : {M : Type 1} → statement M
 put-bounds-spec =
     tie.close
     (tie.spec
-    Inv-loop
-    μ-loop
-    loop-holds
-    (λ c. search needs)
-    (λ c κs. search needs)
-    stored-bounds-requires
-    (λ c κs. search needs)
-    (λ c. search needs)
-    loop-again
-    same-length
-    returns)
+    Inv-loop μ-loop loop-holds (λ c. search needs) (λ c κs. search needs) stored-bounds-requires (λ c κs. search needs) (λ c. search needs) loop-again
+    (λ c. c .before .loop .inv .1 .size) returns)

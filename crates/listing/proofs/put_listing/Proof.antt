@@ -19,10 +19,4 @@ pub put-listing-spec : {M : Type 1} → statement M
 put-listing-spec =
     tie.close
     (tie.spec
-    propagate-whole-requires
-    (λ c κs. search needs)
-    (λ c κs. search needs)
-    put-state-requires
-    (λ c. search needs)
-    (λ c. search needs)
-    returns)
+    propagate-whole-requires (λ c κs. search needs) (λ c κs. search needs) put-state-requires (λ c. search needs) (λ c. search needs) returns)

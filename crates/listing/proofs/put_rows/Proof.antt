@@ -23,9 +23,6 @@ loop-again : tie.Need-loop-again Inv-loop μ-loop
 loop-again c = let l = c .before .before .before .before .before .before .before .before .loop in let a = c .before .before .before .before .before .before .before .before .before .before .before .args in let z = c .before .before .before .before .before .literal-of in
     (omega (arith, l .inv .0), row-more (a .area .now) (a .n) (l .i) (z .result) (search needs) (z .ensures) (l .inv .1) (c .before .before .put-row .ensures))
 
-same-length : tie.Need-same-length Inv-loop μ-loop
-same-length c = c .before .loop .inv .1 .size
-
 returns : tie.Need-returns Inv-loop μ-loop
 returns c = let i = c .before .loop .inv in let a = c .before .before .before .before .args in
     counted-up (λ (j : ℕ). row-lines (rows-from (a .area .now) (a .n) j)) (omega (arith, i .0)) (i .1)
@@ -34,21 +31,6 @@ pub put-rows-spec : {M : Type 1} → statement M
 put-rows-spec =
     tie.close
     (tie.spec
-    Inv-loop
-    μ-loop
-    loop-holds
-    (λ c. search needs)
-    (λ c. search needs)
-    (λ c. search needs)
-    (λ c. search needs)
-    (λ c κs. search needs)
-    (λ c. search needs)
-    (λ c. search needs)
-    (λ c. search needs)
-    (λ c. search needs)
-    (λ c κs. search needs)
-    (λ c. search needs)
-    (λ c. search needs)
-    loop-again
-    same-length
-    returns)
+    Inv-loop μ-loop loop-holds (λ c. search needs) (λ c. search needs) (λ c. search needs) (λ c. search needs) (λ c κs. search needs)
+    (λ c. search needs) (λ c. search needs) (λ c. search needs) (λ c. search needs) (λ c κs. search needs) (λ c. search needs) (λ c. search needs)
+    loop-again (λ c. c .before .loop .inv .1 .size) returns)

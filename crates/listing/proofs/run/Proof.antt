@@ -70,32 +70,9 @@ pub run-spec : {M : Type 1} → statement M
 run-spec =
     tie.close
     (tie.spec
-    (λ c. search needs)
-    (λ c. search needs)
-    (λ c. search needs)
-    (λ c. search needs)
-    (λ c. search needs)
-    (λ c. search needs)
-    (λ c. search needs)
-    (λ c κs. search needs)
-    (λ c. search needs)
-    (λ c κs. search needs)
-    (λ c. search needs)
-    returns
-    array-share-prefix-heads
-    slice-aggregate-list-sentences
-    array-share-prefix-kinds
-    slice-aggregate-list-sentences-2
-    array-share-prefix-sides
-    slice-aggregate-list-sentences-3
-    array-share-prefix-bounds
-    slice-aggregate-list-sentences-4
-    array-share-prefix-counts
-    slice-aggregate-list-sentences-5
-    array-share-prefix-weights
-    slice-aggregate-list-sentences-6
-    array-share-prefix-literals
-    slice-aggregate-list-sentences-7
-    list-sentences-requires
-    (λ c. search needs)
+    (λ c. search needs) (λ c. search needs) (λ c. search needs) (λ c. search needs) (λ c. search needs) (λ c. search needs) (λ c. search needs)
+    (λ c κs. search needs) (λ c. search needs) (λ c κs. search needs) (λ c. search needs) returns array-share-prefix-heads
+    slice-aggregate-list-sentences array-share-prefix-kinds slice-aggregate-list-sentences-2 array-share-prefix-sides slice-aggregate-list-sentences-3
+    array-share-prefix-bounds slice-aggregate-list-sentences-4 array-share-prefix-counts slice-aggregate-list-sentences-5 array-share-prefix-weights
+    slice-aggregate-list-sentences-6 array-share-prefix-literals slice-aggregate-list-sentences-7 list-sentences-requires (λ c. search needs)
     returns-2)

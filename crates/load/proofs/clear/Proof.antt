@@ -14,23 +14,11 @@ Inv-loop area₀ to first i₀ area i = (i ≤ to) × Clearing area₀ area i
 abbrev μ-loop : tie.MeasureT-loop
 μ-loop area₀ to first i₀ area i = to - i
 
-slice-write-area : tie.Need-slice-write-area Inv-loop μ-loop
-slice-write-area c = search needs
-
 loop-holds : tie.Need-loop-holds Inv-loop μ-loop
 loop-holds c = (omega arith, clear-none _)
 
-mul-area : tie.Need-mul-area Inv-loop μ-loop
-mul-area c = search needs
-
 slice-write-area-2 : tie.Need-slice-write-area-2 Inv-loop μ-loop
 slice-write-area-2 c = omega (arith, c .before .loop .inv .1 .size ∙ length-set (c .before .before .args .area .now) 0 (c .before .before .args .first))
-
-add-i : tie.Need-add-i Inv-loop μ-loop
-add-i c = search needs
-
-loop-less : tie.Need-loop-less Inv-loop μ-loop
-loop-less c = search needs
 
 loop-again : tie.Need-loop-again Inv-loop μ-loop
 loop-again c = (omega arith, clear-more _ _ _ (omega (arith, c .before .loop .inv .1 .size ∙ length-set (c .before .before .args .area .now) 0 (c .before .before .args .first))) (c .before .loop .inv .1))
@@ -45,14 +33,5 @@ pub clear-spec : {M : Type 1} → statement M
 clear-spec =
     tie.close
     (tie.spec
-    Inv-loop
-    μ-loop
-    slice-write-area
-    loop-holds
-    mul-area
-    slice-write-area-2
-    add-i
-    loop-less
-    loop-again
-    same-length
-    returns)
+    Inv-loop μ-loop (λ c. search needs) loop-holds (λ c. search needs) slice-write-area-2 (λ c. search needs) (λ c. search needs) loop-again
+    same-length returns)

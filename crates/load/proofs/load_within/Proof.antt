@@ -19,9 +19,6 @@ ok c =
     let b = c .before .before .before .before .before .before .before in
     accepted (b .args .lim) (length (b .args .area .now)) (b .args .atoms .0) (cols b) (ap (λ (a : Answer). a .code) (sym (c .before .refusal .ensures)) ∙ c .if1 .left)
 
-refusal-requires : tie.Need-refusal-requires
-refusal-requires c κs = search needs
-
 returns : tie.Need-returns
 returns c = record { answer-is = c .before .refusal .ensures; refused = λ _. refl; accepted = λ e. absurd (c .if1 .taken e) }
 
@@ -30,16 +27,10 @@ store-all-requires c κs =
     let b = c .before .before .before .before .before .before .before .before in
     record { lim = b .args .lim; fitting = b .pre; unrefused = ap (λ (a : Answer). a .code) (sym (c .before .before .refusal .ensures)) ∙ c .before .if1 .left }
 
-slice-aggregate-refresh : tie.Need-slice-aggregate-refresh
-slice-aggregate-refresh c = search needs
-
 refresh-requires : tie.Need-refresh-requires
 refresh-requires c κs =
     let b = c .before .before .before .before .before .before .before .before .before .before .before .before .before in
     (b .args .lim, refreshable (b .args .lim) (b .args .area .now) (c .before .before .before .before .store-all .last .0) (b .args .atoms .0) (cols b) (b .pre) (ok (c .before .before .before .before .before .before)) (c .before .before .before .before .store-all .ensures) _ refl)
-
-same-length : tie.Need-same-length
-same-length c = search needs
 
 returns-2 : tie.Need-returns-2
 returns-2 c =
@@ -58,10 +49,4 @@ pub load-within-spec : {M : Type 1} → statement M
 load-within-spec =
     tie.close
     (tie.spec
-    refusal-requires
-    returns
-    store-all-requires
-    slice-aggregate-refresh
-    refresh-requires
-    same-length
-    returns-2)
+    (λ c κs. search needs) returns store-all-requires (λ c. search needs) refresh-requires (λ c. search needs) returns-2)

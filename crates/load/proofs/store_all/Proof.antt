@@ -121,12 +121,6 @@ store-one-requires c κs =
     storable (b .pre .lim) (length (b .args .area .now)) (b .args .n) (cols b) (b .pre .fitting) (ok b) (loop .s) (loop .from) (c .before .before .before .before .before .before .before .before .loop-test .taken) (loop .inv .1 .from-is)
     _ _ (loop .from + count - loop .from) (loop .inv .1 .size ∙ c .before .before .before .before .before .before .before .before .before .before .before .before .clear .kept .0) z m
 
-add-s : tie.Need-add-s Inv-loop μ-loop
-add-s c = search needs
-
-loop-less : tie.Need-loop-less Inv-loop μ-loop
-loop-less c = search needs
-
 loop-again : tie.Need-loop-again Inv-loop μ-loop
 loop-again c =
     let b = c .before .before .before .before .before .before .before .before .before .before .before .before .before .before .before .before .before .before .before .before .before .before in
@@ -141,9 +135,6 @@ loop-again c =
           (subst (λ (y : Written). Stored (loop .area) (c .before .before .store-one .last .0) (b .args .n) (length (b .args .heads .now)) (loop .s) (loop .from) y) x (c .before .before .store-one .ensures))),
     )
 
-same-length : tie.Need-same-length Inv-loop μ-loop
-same-length c = c .before .loop .inv .1 .size ∙ c .before .before .before .before .clear .kept .0
-
 returns : tie.Need-returns Inv-loop μ-loop
 returns c =
     let b = c .before .before .before .before .before .before .before .before .before .before .before in
@@ -153,35 +144,8 @@ pub store-all-spec : {M : Type 1} → statement M
 store-all-spec =
     tie.close
     (tie.spec
-    Inv-loop
-    μ-loop
-    mul-clear
-    mul-clear-2
-    add-clear
-    clear-requires
-    loop-holds
-    mul-to
-    shared-slice-read-to
-    add-to
-    mul-store-one
-    shared-slice-read-store-one
-    mul-store-one-2
-    shared-slice-read-store-one-2
-    mul-store-one-3
-    shared-slice-read-store-one-3
-    mul-store-one-4
-    shared-slice-copy-out-store-one
-    mul-store-one-5
-    sub-store-one
-    part-store-one-start
-    part-store-one-end
-    mul-store-one-6
-    sub-store-one-2
-    part-store-one-start-2
-    part-store-one-end-2
-    store-one-requires
-    add-s
-    loop-less
-    loop-again
-    same-length
-    returns)
+    Inv-loop μ-loop mul-clear mul-clear-2 add-clear clear-requires loop-holds mul-to shared-slice-read-to add-to mul-store-one
+    shared-slice-read-store-one mul-store-one-2 shared-slice-read-store-one-2 mul-store-one-3 shared-slice-read-store-one-3 mul-store-one-4
+    shared-slice-copy-out-store-one mul-store-one-5 sub-store-one part-store-one-start part-store-one-end mul-store-one-6 sub-store-one-2
+    part-store-one-start-2 part-store-one-end-2 store-one-requires (λ c. search needs) (λ c. search needs) loop-again
+    (λ c. c .before .loop .inv .1 .size ∙ c .before .before .before .before .clear .kept .0) returns)

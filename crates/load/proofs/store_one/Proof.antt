@@ -15,30 +15,6 @@ use Rattle.load.proofs.store_one.Tie as tie
 fits : (c : tie.Start) → Small (c .args .area .now) (c .args .n) (c .args .all) (c .args .s) (c .args .before) (c .args .head) (c .args .kind) (c .args .side) (c .args .bound) (c .args .weights .now) (c .args .literals .now) (c .pre)
 fits c = small (c .args .area .now) (c .args .n) (c .args .all) (c .args .s) (c .args .before) (c .args .head) (c .args .kind) (c .args .side) (c .args .bound) (c .args .weights .now) (c .args .literals .now) (c .pre)
 
-mul-own : tie.Need-mul-own
-mul-own c = search needs
-
-mul-own-2 : tie.Need-mul-own-2
-mul-own-2 c = search needs
-
-add-own : tie.Need-add-own
-add-own c = search needs
-
-mul-at : tie.Need-mul-at
-mul-at c = search needs
-
-mul-at-2 : tie.Need-mul-at-2
-mul-at-2 c = search needs
-
-add-at : tie.Need-add-at
-add-at c = search needs
-
-mul-at-3 : tie.Need-mul-at-3
-mul-at-3 c = search needs
-
-add-at-2 : tie.Need-add-at-2
-add-at-2 c = search needs
-
 merge-at-requires : tie.Need-merge-at-requires
 merge-at-requires c κs =
     let b = c .before .before in
@@ -58,24 +34,6 @@ add-put-four c = let k = fits (c .before .before .before .before .before .before
 add-put-four-2 : tie.Need-add-put-four-2
 add-put-four-2 c = let k = fits (c .before .before .before .before .before .before .before) in omega (arith, k .kind-low, k .side-low)
 
-put-four-requires : tie.Need-put-four-requires
-put-four-requires c κs = search needs
-
-add-put-four-3 : tie.Need-add-put-four-3
-add-put-four-3 c = search needs
-
-mul-put-four-2 : tie.Need-mul-put-four-2
-mul-put-four-2 c = search needs
-
-add-put-four-4 : tie.Need-add-put-four-4
-add-put-four-4 c = search needs
-
-put-four-requires-2 : tie.Need-put-four-requires-2
-put-four-requires-2 c κs = search needs
-
-same-length : tie.Need-same-length
-same-length c = search needs
-
 returns : tie.Need-returns
 returns c =
     let b = c .before .before .before .before .before .before .before .before .before .before .before .before .before .before in
@@ -93,23 +51,6 @@ pub store-one-spec : {M : Type 1} → statement M
 store-one-spec =
     tie.close
     (tie.spec
-    mul-own
-    mul-own-2
-    add-own
-    mul-at
-    mul-at-2
-    add-at
-    mul-at-3
-    add-at-2
-    merge-at-requires
-    bound-word-requires
-    mul-put-four
-    add-put-four
-    add-put-four-2
-    put-four-requires
-    add-put-four-3
-    mul-put-four-2
-    add-put-four-4
-    put-four-requires-2
-    same-length
-    returns)
+    (λ c. search needs) (λ c. search needs) (λ c. search needs) (λ c. search needs) (λ c. search needs) (λ c. search needs) (λ c. search needs)
+    (λ c. search needs) merge-at-requires bound-word-requires mul-put-four add-put-four add-put-four-2 (λ c κs. search needs) (λ c. search needs)
+    (λ c. search needs) (λ c. search needs) (λ c κs. search needs) (λ c. search needs) returns)

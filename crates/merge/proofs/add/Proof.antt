@@ -8,9 +8,6 @@ use Rattle.merge.proofs.Gathering.{weight-top, left-out, constant-low, 
 use Rattle.merge.proofs.add.Statement.{statement}
 use Rattle.merge.proofs.add.Tie as tie
 
-takes-requires : tie.Need-takes-requires
-takes-requires c κs = search needs
-
 returns : tie.Need-returns
 returns c = record { next = λ es g t. rw (c .before .takes .ensures .1) (left-out g t (sym (c .before .takes .ensures .0) ∙ not-true _ (c .if1 .taken))) }
 
@@ -26,9 +23,6 @@ sub-constant c = constant-low (c .before .before .before .before .before .before
 put-requires : tie.Need-put-requires
 put-requires c κs = puttable (c .before .before .before .before .before .before .before .before .before .pre .gathered) (c .before .before .before .before .before .before .before .before .before .pre .takeable) (c .before .before .before .before .turn .ensures)
 
-same-length : tie.Need-same-length
-same-length c = search needs
-
 returns-2 : tie.Need-returns-2
 returns-2 c = record { next = λ es g t. rw (c .before .before .before .before .before .before .before .before .before .takes .ensures .1) (taken-in g t (c .before .before .before .before .before .before .before .turn .ensures) (c .before .before .put .ensures) (sym (c .before .before .before .before .before .before .before .before .before .takes .ensures .0) ∙ not-false _ (c .before .before .before .before .before .before .before .before .if1 .left))) }
 
@@ -36,11 +30,4 @@ pub add-spec : {M : Type 1} → statement M
 add-spec =
     tie.close
     (tie.spec
-    takes-requires
-    returns
-    turn-requires
-    add-constant
-    sub-constant
-    put-requires
-    same-length
-    returns-2)
+    (λ c κs. search needs) returns turn-requires add-constant sub-constant put-requires (λ c. search needs) returns-2)

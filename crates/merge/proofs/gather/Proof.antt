@@ -25,20 +25,8 @@ abbrev μ-loop : tie.MeasureT-loop
 loop-holds : tie.Need-loop-holds Inv-loop μ-loop
 loop-holds c = (omega arith, refl, gathered-none (c .before .args .kind) (paired (c .before .args .weights .now) (c .before .args .literals .now)) (c .before .args .part .now) (replicate 8194 0) (replicate 8194 false) refl refl)
 
-mul-weight-word : tie.Need-mul-weight-word Inv-loop μ-loop
-mul-weight-word c = search needs
-
-shared-slice-copy-out-weight-word : tie.Need-shared-slice-copy-out-weight-word Inv-loop μ-loop
-shared-slice-copy-out-weight-word c = search needs
-
 weight-word-requires : tie.Need-weight-word-requires Inv-loop μ-loop
 weight-word-requires c κs = weight-small (c .before .before .before .before .pre) (c .before .before .loop .i) (omega arith) (record { sfits = c .weight-word-arg .given })
-
-mul-literal-word : tie.Need-mul-literal-word Inv-loop μ-loop
-mul-literal-word c = search needs
-
-shared-slice-copy-out-literal-word : tie.Need-shared-slice-copy-out-literal-word Inv-loop μ-loop
-shared-slice-copy-out-literal-word c = omega (arith, c .before .before .before .before .before .pre .same)
 
 literal-word-requires : tie.Need-literal-word-requires Inv-loop μ-loop
 literal-word-requires c κs = literal-small (c .before .before .before .before .before .before .pre) (c .before .before .before .before .loop .i) (omega arith) (record { sfits = c .literal-word-arg .given })
@@ -58,20 +46,11 @@ next-taken : (c : tie.After-literal-word Inv-loop μ-loop)
     → take (c .before .before .before .before .before .loop .i + 1) (paired (c .before .before .before .before .before .before .before .args .weights .now) (c .before .before .before .before .before .before .before .args .literals .now)) ≡ (take (c .before .before .before .before .before .loop .i) (paired (c .before .before .before .before .before .before .before .args .weights .now) (c .before .before .before .before .before .before .before .args .literals .now))) ++ (entry-of (c .before .before .weight-word .result) (c .literal-word .result) ∷ [])
 next-taken c = one-more (c .before .before .before .before .before .before .before .pre) (c .before .before .before .before .before .loop .i) (omega arith) (weight-known c) (literal-known c)
 
-add-i : tie.Need-add-i Inv-loop μ-loop
-add-i c = search needs
-
 add-requires : tie.Need-add-requires Inv-loop μ-loop
 add-requires c κs = record { before = (take (c .before .before .before .before .before .before .before .before .loop .i) (paired (c .before .before .before .before .before .before .before .before .before .before .args .weights .now) (c .before .before .before .before .before .before .before .before .before .before .args .literals .now))); gathered = c .before .before .before .before .before .before .before .before .loop .inv .2; takeable = may-take (c .before .before .before) }
 
-loop-less : tie.Need-loop-less Inv-loop μ-loop
-loop-less c = search needs
-
 loop-again : tie.Need-loop-again Inv-loop μ-loop
 loop-again c = (omega arith, c .before .before .add .kept .0 ∙ c .before .before .before .before .before .before .before .before .before .before .before .loop .inv .1, rw (next-taken (c .before .before .before .before .before .before)) (c .before .before .add .ensures .next (take (c .before .before .before .before .before .before .before .before .before .before .before .loop .i) (paired (c .before .before .before .before .before .before .before .before .before .before .before .before .before .args .weights .now) (c .before .before .before .before .before .before .before .before .before .before .before .before .before .args .literals .now))) (c .before .before .before .before .before .before .before .before .before .before .before .loop .inv .2) (may-take (c .before .before .before .before .before .before))))
-
-same-length : tie.Need-same-length Inv-loop μ-loop
-same-length c = c .before .loop .inv .1
 
 returns : tie.Need-returns Inv-loop μ-loop
 returns c = rw (take-all (c .before .loop .i) (paired (c .before .before .before .args .weights .now) (c .before .before .before .args .literals .now)) (omega (arith, paired-length (c .before .before .before .args .weights .now) (c .before .before .before .args .literals .now) (c .before .before .before .pre .same)))) at (c .before .loop .inv .2 .collected)
@@ -80,18 +59,6 @@ pub gather-spec : {M : Type 1} → statement M
 gather-spec =
     tie.close
     (tie.spec
-    Inv-loop
-    μ-loop
-    loop-holds
-    mul-weight-word
-    shared-slice-copy-out-weight-word
-    weight-word-requires
-    mul-literal-word
-    shared-slice-copy-out-literal-word
-    literal-word-requires
-    add-i
-    add-requires
-    loop-less
-    loop-again
-    same-length
-    returns)
+    Inv-loop μ-loop loop-holds (λ c. search needs) (λ c. search needs) weight-word-requires (λ c. search needs)
+    (λ c. omega (arith, c .before .before .before .before .before .pre .same)) literal-word-requires (λ c. search needs) add-requires
+    (λ c. search needs) loop-again (λ c. c .before .loop .inv .1) returns)

@@ -9,9 +9,6 @@ use Rattle.merge.proofs.Joining.{Sum, sum-fits, sum-joins, Product, pro
 use Rattle.merge.proofs.join.Statement.{statement}
 use Rattle.merge.proofs.join.Tie as tie
 
-mixing-requires : tie.Need-mixing-requires
-mixing-requires c κs = search needs
-
 sums : (c : tie.Then1) → Sum (c .before .before .args .x) (c .before .before .args .y)
 sums c = sum-fits (c .before .before .args .kind) (c .before .before .args .x) (c .before .before .args .y) (sym (c .before .mixing .ensures) ∙ c .if1 .taken) (c .before .before .pre)
 
@@ -20,9 +17,6 @@ products c = product-fits (c .before .before .before .args .kind) (c .before .be
 
 least : (c : tie.Else3) → kind-of (c .before .before .before .before .args .kind) ≡ minimum
 least c = is-minimum (c .before .before .before .before .args .kind) (sym (c .before .before .before .mixing .ensures) ∙ c .before .before .if1 .left) (c .before .if2 .left) (c .if3 .left)
-
-add-result : tie.Need-add-result
-add-result c = omega (arith, sums c .high)
 
 sub-result : tie.Need-sub-result
 sub-result c = sums c .low
@@ -35,12 +29,6 @@ sub-result-2 c = products c .left
 
 sub-result-3 : tie.Need-sub-result-3
 sub-result-3 c = products c .right
-
-mul-result : tie.Need-mul-result
-mul-result c = omega (arith, products c .high)
-
-add-result-2 : tie.Need-add-result-2
-add-result-2 c = omega (arith, products c .high)
 
 returns-2 : tie.Need-returns-2
 returns-2 c = product-joins (c .before .before .before .args .kind) (c .before .before .before .args .x) (c .before .before .before .args .y) (c .if2 .taken) (c .before .before .before .pre)
@@ -61,16 +49,5 @@ pub join-spec : {M : Type 1} → statement M
 join-spec =
     tie.close
     (tie.spec
-    mixing-requires
-    add-result
-    sub-result
-    returns
-    sub-result-2
-    sub-result-3
-    mul-result
-    add-result-2
-    returns-2
-    returns-3
-    returns-4
-    returns-5
-    returns-6)
+    (λ c κs. search needs) (λ c. omega (arith, sums c .high)) sub-result returns sub-result-2 sub-result-3 (λ c. omega (arith, products c .high))
+    (λ c. omega (arith, products c .high)) returns-2 returns-3 returns-4 returns-5 returns-6)

@@ -8,26 +8,11 @@ use Rattle.merge.proofs.Signs.{size-is, sign-is, literal-negative, lite
 use Rattle.merge.proofs.literal_word.Statement.{statement}
 use Rattle.merge.proofs.literal_word.Tie as tie
 
-size-requires : tie.Need-size-requires
-size-requires c κs = search needs
-
 sized : (c : tie.After-size) → c .size .result ≡ natAbs (c .before .args .l)
 sized c = size-is (c .before .args .l) (c .size .result) (c .before .fits .l) (c .size .ensures)
 
-negative-requires : tie.Need-negative-requires
-negative-requires c κs = search needs
-
-mul-result : tie.Need-mul-result
-mul-result c = omega (arith, sized (c .before .before), c .before .before .before .pre)
-
-add-result : tie.Need-add-result
-add-result c = omega (arith, sized (c .before .before), c .before .before .before .pre)
-
 returns : tie.Need-returns
 returns c = literal-negative (c .before .before .before .args .l) (c .before .before .size .result) (sized (c .before .before)) (sign-is (c .before .before .before .args .l) (c .before .negative .result) true (c .before .before .before .fits .l) (c .before .negative .ensures) (c .if1 .taken))
-
-mul-result-2 : tie.Need-mul-result-2
-mul-result-2 c = omega (arith, sized (c .before .before), c .before .before .before .pre)
 
 returns-2 : tie.Need-returns-2
 returns-2 c = literal-positive (c .before .before .before .args .l) (c .before .before .size .result) (sized (c .before .before)) (sign-is (c .before .before .before .args .l) (c .before .negative .result) false (c .before .before .before .fits .l) (c .before .negative .ensures) (c .if1 .left))
@@ -35,4 +20,7 @@ returns-2 c = literal-positive (c .before .before .before .args .l) (c .before .
 pub literal-word-spec : {M : Type 1} → statement M
 literal-word-spec =
     tie.close
-    (tie.spec size-requires negative-requires mul-result add-result returns mul-result-2 returns-2)
+    (tie.spec
+    (λ c κs. search needs) (λ c κs. search needs) (λ c. omega (arith, sized (c .before .before), c .before .before .before .pre))
+    (λ c. omega (arith, sized (c .before .before), c .before .before .before .pre)) returns
+    (λ c. omega (arith, sized (c .before .before), c .before .before .before .pre)) returns-2)

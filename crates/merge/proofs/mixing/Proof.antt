@@ -4,11 +4,10 @@ use Rattle.merge.proofs.Signs.{mixes-two}
 use Rattle.merge.proofs.mixing.Statement.{statement}
 use Rattle.merge.proofs.mixing.Tie as tie
 
-returns : tie.Need-returns
-returns c = search needs
-
 returns-2 : tie.Need-returns-2
 returns-2 c = mixes-two _ (c .if1 .left)
 
 pub mixing-spec : {M : Type 1} → statement M
-mixing-spec = tie.close (tie.spec returns returns-2)
+mixing-spec = tie.close
+    (tie.spec
+    (λ c. search needs) returns-2)

@@ -5,12 +5,6 @@ use Rattle.merge.proofs.Signs.{taken-count, taken-other}
 use Rattle.merge.proofs.takes.Statement.{statement}
 use Rattle.merge.proofs.takes.Tie as tie
 
-element-copy-out-before : tie.Need-element-copy-out-before
-element-copy-out-before c = search needs
-
-element-write-seen : tie.Need-element-write-seen
-element-write-seen c = search needs
-
 returns : tie.Need-returns
 returns c = (taken-count (c .before .before .args .kind) _ (c .if1 .taken), refl)
 
@@ -18,4 +12,6 @@ returns-2 : tie.Need-returns-2
 returns-2 c = (taken-other (c .before .before .args .kind) _ (c .if1 .left), refl)
 
 pub takes-spec : {M : Type 1} → statement M
-takes-spec = tie.close (tie.spec element-copy-out-before element-write-seen returns returns-2)
+takes-spec = tie.close
+    (tie.spec
+    (λ c. search needs) (λ c. search needs) returns returns-2)

@@ -7,26 +7,16 @@ use Rattle.merge.proofs.Signs.{turned-plain, turned-even, turned-odd}
 use Rattle.merge.proofs.turn.Statement.{statement}
 use Rattle.merge.proofs.turn.Tie as tie
 
-mixing-requires : tie.Need-mixing-requires
-mixing-requires c κs = search needs
-
 returns : tie.Need-returns
 returns c = turned-plain _ _ _ (sym (c .before .mixing .ensures) ∙ not-true _ (c .if1 .taken)) (c .before .before .pre .1) (c .before .before .pre .2)
 
 returns-2 : tie.Need-returns-2
 returns-2 c = turned-even _ _ _ (sym (c .before .before .mixing .ensures) ∙ not-false _ (c .before .if1 .left)) (c .if2 .taken) (c .before .before .before .pre .1) (c .before .before .before .pre .2)
 
-mul-t6 : tie.Need-mul-t6
-mul-t6 c = search needs
-
-sub-t7 : tie.Need-sub-t7
-sub-t7 c = search needs
-
-sub-t8 : tie.Need-sub-t8
-sub-t8 c = search needs
-
 returns-3 : tie.Need-returns-3
 returns-3 c = turned-odd _ _ _ (sym (c .before .before .mixing .ensures) ∙ not-false _ (c .before .if1 .left)) (omega arith) (c .before .before .before .pre .1) (c .before .before .before .pre .2) (c .before .before .before .pre .0)
 
 pub turn-spec : {M : Type 1} → statement M
-turn-spec = tie.close (tie.spec mixing-requires returns returns-2 mul-t6 sub-t7 sub-t8 returns-3)
+turn-spec = tie.close
+    (tie.spec
+    (λ c κs. search needs) returns returns-2 (λ c. search needs) (λ c. search needs) (λ c. search needs) returns-3)

@@ -5,15 +5,9 @@ use Rattle.opb_bytes.specs.Grammar.{place}
 use Rattle.opb_bytes.proofs.after_greater.Statement.{statement}
 use Rattle.opb_bytes.proofs.after_greater.Tie as tie
 
-relation-at-least-requires : tie.Need-relation-at-least-requires
-relation-at-least-requires c κs = search needs
-
 returns : tie.Need-returns
 unfolding place
 returns c = simp (c .relation-at-least .ensures, eq-eqb _ _ (c .before .if1 .taken))
-
-wrong-requires : tie.Need-wrong-requires
-wrong-requires c κs = search needs
 
 returns-2 : tie.Need-returns-2
 unfolding place
@@ -21,4 +15,6 @@ returns-2 c = simp (c .wrong .ensures, ne-eqb _ _ (c .before .if1 .left))
 
 pub after-greater-spec : {M : Type 1} → statement M
 after-greater-spec =
-    tie.close (tie.spec relation-at-least-requires returns wrong-requires returns-2)
+    tie.close
+    (tie.spec
+    (λ c κs. search needs) returns (λ c κs. search needs) returns-2)

@@ -5,19 +5,15 @@ use Rattle.opb_bytes.specs.Grammar.{place}
 use Rattle.opb_bytes.proofs.after_relation.Statement.{statement}
 use Rattle.opb_bytes.proofs.after_relation.Tie as tie
 
-moved-requires : tie.Need-moved-requires
-moved-requires c κs = search needs
-
 returns : tie.Need-returns
 unfolding place
 returns c = simp (c .moved .ensures, eq-eqb _ _ (c .before .if1 .taken))
-
-wrong-requires : tie.Need-wrong-requires
-wrong-requires c κs = search needs
 
 returns-2 : tie.Need-returns-2
 unfolding place
 returns-2 c = simp (c .wrong .ensures, ne-eqb _ _ (c .before .if1 .left))
 
 pub after-relation-spec : {M : Type 1} → statement M
-after-relation-spec = tie.close (tie.spec moved-requires returns wrong-requires returns-2)
+after-relation-spec = tie.close
+    (tie.spec
+    (λ c κs. search needs) returns (λ c κs. search needs) returns-2)

@@ -5,29 +5,17 @@ use Rattle.opb_bytes.specs.Grammar.{place}
 use Rattle.opb_bytes.proofs.after_term.Statement.{statement}
 use Rattle.opb_bytes.proofs.after_term.Tie as tie
 
-moved-requires : tie.Need-moved-requires
-moved-requires c κs = search needs
-
 returns : tie.Need-returns
 unfolding place
 returns c = simp (c .moved .ensures, eq-eqb _ _ (c .before .if1 .taken))
-
-moved-requires-2 : tie.Need-moved-requires-2
-moved-requires-2 c κs = search needs
 
 returns-2 : tie.Need-returns-2
 unfolding place
 returns-2 c = simp (c .moved2 .ensures, eq-eqb _ _ (c .before .if2 .taken), ne-eqb _ _ (c .before .before .if1 .left))
 
-relation-equal-requires : tie.Need-relation-equal-requires
-relation-equal-requires c κs = search needs
-
 returns-3 : tie.Need-returns-3
 unfolding place
 returns-3 c = simp (c .relation-equal .ensures, eq-eqb _ _ (c .before .if3 .taken), ne-eqb _ _ (c .before .before .if2 .left), ne-eqb _ _ (c .before .before .before .if1 .left))
-
-begin-requires : tie.Need-begin-requires
-begin-requires c κs = search needs
 
 returns-4 : tie.Need-returns-4
 unfolding place
@@ -37,11 +25,4 @@ pub after-term-spec : {M : Type 1} → statement M
 after-term-spec =
     tie.close
     (tie.spec
-    moved-requires
-    returns
-    moved-requires-2
-    returns-2
-    relation-equal-requires
-    returns-3
-    begin-requires
-    returns-4)
+    (λ c κs. search needs) returns (λ c κs. search needs) returns-2 (λ c κs. search needs) returns-3 (λ c κs. search needs) returns-4)

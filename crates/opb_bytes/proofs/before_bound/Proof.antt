@@ -5,19 +5,15 @@ use Rattle.opb_bytes.specs.Grammar.{place}
 use Rattle.opb_bytes.proofs.before_bound.Statement.{statement}
 use Rattle.opb_bytes.proofs.before_bound.Tie as tie
 
-moved-requires : tie.Need-moved-requires
-moved-requires c κs = search needs
-
 returns : tie.Need-returns
 unfolding place
 returns c = simp (c .moved .ensures, eq-eqb _ _ (c .before .if1 .taken))
-
-begin-requires : tie.Need-begin-requires
-begin-requires c κs = search needs
 
 returns-2 : tie.Need-returns-2
 unfolding place
 returns-2 c = simp (c .begin .ensures, ne-eqb _ _ (c .before .if1 .left))
 
 pub before-bound-spec : {M : Type 1} → statement M
-before-bound-spec = tie.close (tie.spec moved-requires returns begin-requires returns-2)
+before-bound-spec = tie.close
+    (tie.spec
+    (λ c κs. search needs) returns (λ c κs. search needs) returns-2)

@@ -5,19 +5,15 @@ use Rattle.opb_bytes.specs.Grammar.{place}
 use Rattle.opb_bytes.proofs.before_variable.Statement.{statement}
 use Rattle.opb_bytes.proofs.before_variable.Tie as tie
 
-wrong-requires : tie.Need-wrong-requires
-wrong-requires c κs = search needs
-
 returns : tie.Need-returns
 unfolding place
 returns c = simp (c .wrong .ensures, eq-eqb _ _ (c .before .if1 .taken))
-
-digits-requires : tie.Need-digits-requires
-digits-requires c κs = search needs
 
 returns-2 : tie.Need-returns-2
 unfolding place
 returns-2 c = simp (c .digits .ensures, ne-eqb _ _ (c .before .if1 .left))
 
 pub before-variable-spec : {M : Type 1} → statement M
-before-variable-spec = tie.close (tie.spec wrong-requires returns digits-requires returns-2)
+before-variable-spec = tie.close
+    (tie.spec
+    (λ c κs. search needs) returns (λ c κs. search needs) returns-2)

@@ -5,25 +5,13 @@ use Rattle.opb_bytes.specs.Grammar.{place}
 use Rattle.opb_bytes.proofs.before_x.Statement.{statement}
 use Rattle.opb_bytes.proofs.before_x.Tie as tie
 
-moved-requires : tie.Need-moved-requires
-moved-requires c κs = search needs
-
 returns : tie.Need-returns
 unfolding place
 returns c = simp (c .moved .ensures, eq-eqb _ _ (c .before .if1 .taken))
 
-sign-requires : tie.Need-sign-requires
-sign-requires c κs = search needs
-
-numbered-requires : tie.Need-numbered-requires
-numbered-requires c κs = search needs
-
 returns-2 : tie.Need-returns-2
 unfolding place
 returns-2 c = simp (c .numbered .ensures, c .before .sign .ensures, eq-eqb _ _ (c .before .before .if2 .taken), ne-eqb _ _ (c .before .before .before .if1 .left))
-
-wrong-requires : tie.Need-wrong-requires
-wrong-requires c κs = search needs
 
 returns-3 : tie.Need-returns-3
 unfolding place
@@ -33,10 +21,4 @@ pub before-x-spec : {M : Type 1} → statement M
 before-x-spec =
     tie.close
     (tie.spec
-    moved-requires
-    returns
-    sign-requires
-    numbered-requires
-    returns-2
-    wrong-requires
-    returns-3)
+    (λ c κs. search needs) returns (λ c κs. search needs) (λ c κs. search needs) returns-2 (λ c κs. search needs) returns-3)

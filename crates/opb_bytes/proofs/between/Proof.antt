@@ -5,22 +5,13 @@ use Rattle.opb_bytes.specs.Grammar.{between}
 use Rattle.opb_bytes.proofs.between.Statement.{statement}
 use Rattle.opb_bytes.proofs.between.Tie as tie
 
-moved-requires : tie.Need-moved-requires
-moved-requires c κs = search needs
-
 returns : tie.Need-returns
 unfolding between
 returns c = simp (c .moved .ensures, eq-eqb _ _ (c .before .if1 .taken))
 
-moved-requires-2 : tie.Need-moved-requires-2
-moved-requires-2 c κs = search needs
-
 returns-2 : tie.Need-returns-2
 unfolding between
 returns-2 c = simp (c .moved2 .ensures, eq-eqb _ _ (c .before .if2 .taken), ne-eqb _ _ (c .before .before .if1 .left))
-
-begin-requires : tie.Need-begin-requires
-begin-requires c κs = search needs
 
 returns-3 : tie.Need-returns-3
 unfolding between
@@ -28,4 +19,6 @@ returns-3 c = simp (c .begin .ensures, ne-eqb _ _ (c .before .if2 .left), ne-eqb
 
 pub between-spec : {M : Type 1} → statement M
 between-spec =
-    tie.close (tie.spec moved-requires returns moved-requires-2 returns-2 begin-requires returns-3)
+    tie.close
+    (tie.spec
+    (λ c κs. search needs) returns (λ c κs. search needs) returns-2 (λ c κs. search needs) returns-3)

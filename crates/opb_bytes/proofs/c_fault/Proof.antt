@@ -5,12 +5,6 @@ use Rattle.opb_bytes.specs.Grammar.{c-fault}
 use Rattle.opb_bytes.proofs.c_fault.Statement.{statement}
 use Rattle.opb_bytes.proofs.c_fault.Tie as tie
 
-within-requires : tie.Need-within-requires
-within-requires c κs = search needs
-
-long-fault-requires : tie.Need-long-fault-requires
-long-fault-requires c κs = search needs
-
 returns : tie.Need-returns
 unfolding c-fault
 returns c = simp (c .long-fault .ensures, sym (c .before .before .within .ensures) ∙ c .before .if1 .taken)
@@ -20,4 +14,6 @@ unfolding c-fault
 returns-2 c = simp (sym (c .before .within .ensures) ∙ c .if1 .left)
 
 pub c-fault-spec : {M : Type 1} → statement M
-c-fault-spec = tie.close (tie.spec within-requires long-fault-requires returns returns-2)
+c-fault-spec = tie.close
+    (tie.spec
+    (λ c κs. search needs) (λ c κs. search needs) returns returns-2)

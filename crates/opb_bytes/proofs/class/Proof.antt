@@ -32,12 +32,11 @@ classes =
 right : ℕ → ℕ → Bool
 right b k = eqb k (class-of b)
 
-array-read-result : tie.Need-array-read-result
-array-read-result c = search needs
-
 returns : tie.Need-returns
 unfolding classes right
 returns c = eqb→eq (getD classes (c .args .b) 0) (class-of (c .args .b)) (at-each right classes tt (c .args .b) (search needs))
 
 pub class-spec : {M : Type 1} → statement M
-class-spec = tie.close (tie.spec array-read-result returns)
+class-spec = tie.close
+    (tie.spec
+    (λ c. search needs) returns)

@@ -45,60 +45,6 @@ others AfterBound s h = refl
 ended : (s : State) {p : Phase} {n : ℕ} → s .phase ≡ p → n ≡ ends p s → n ≡ ends (s .phase) s
 ended s e h = h ∙ ap (λ (p : Phase). ends p s) (sym e)
 
-enum-told : tie.Need-enum-told
-enum-told c = search needs
-
-v-fault-requires : tie.Need-v-fault-requires
-v-fault-requires c κs = search needs
-
-cut-off-requires : tie.Need-cut-off-requires
-cut-off-requires c κs = search needs
-
-enum-told-2 : tie.Need-enum-told-2
-enum-told-2 c = search needs
-
-c-fault-requires : tie.Need-c-fault-requires
-c-fault-requires c κs = search needs
-
-cut-off-requires-2 : tie.Need-cut-off-requires-2
-cut-off-requires-2 c κs = search needs
-
-enum-told-3 : tie.Need-enum-told-3
-enum-told-3 c = search needs
-
-long-fault-requires : tie.Need-long-fault-requires
-long-fault-requires c κs = search needs
-
-cut-off-requires-3 : tie.Need-cut-off-requires-3
-cut-off-requires-3 c κs = search needs
-
-enum-told-4 : tie.Need-enum-told-4
-enum-told-4 c = search needs
-
-variable-fault-requires : tie.Need-variable-fault-requires
-variable-fault-requires c κs = search needs
-
-cut-off-requires-4 : tie.Need-cut-off-requires-4
-cut-off-requires-4 c κs = search needs
-
-enum-told-5 : tie.Need-enum-told-5
-enum-told-5 c = search needs
-
-long-fault-requires-2 : tie.Need-long-fault-requires-2
-long-fault-requires-2 c κs = search needs
-
-cut-off-requires-5 : tie.Need-cut-off-requires-5
-cut-off-requires-5 c κs = search needs
-
-enum-told-6 : tie.Need-enum-told-6
-enum-told-6 c = search needs
-
-enum-told-7 : tie.Need-enum-told-7
-enum-told-7 c = search needs
-
-enum-told-8 : tie.Need-enum-told-8
-enum-told-8 c = search needs
-
 returns : tie.Need-returns
 unfolding ends
 returns c = ended (c .before .before .before .before .args .s) (c .before .before .enum-told .given .1) (c .cut-off .ensures ∙ ap cut-off (c .before .v-fault .ensures))
@@ -139,30 +85,7 @@ pub ends-spec : {M : Type 1} → statement M
 ends-spec =
     tie.close
     (tie.spec
-    enum-told
-    v-fault-requires
-    cut-off-requires
-    enum-told-2
-    c-fault-requires
-    cut-off-requires-2
-    enum-told-3
-    long-fault-requires
-    cut-off-requires-3
-    enum-told-4
-    variable-fault-requires
-    cut-off-requires-4
-    enum-told-5
-    long-fault-requires-2
-    cut-off-requires-5
-    enum-told-6
-    enum-told-7
-    enum-told-8
-    returns
-    returns-2
-    returns-3
-    returns-4
-    returns-5
-    returns-6
-    returns-7
-    returns-8
-    returns-9)
+    (λ c. search needs) (λ c κs. search needs) (λ c κs. search needs) (λ c. search needs) (λ c κs. search needs) (λ c κs. search needs)
+    (λ c. search needs) (λ c κs. search needs) (λ c κs. search needs) (λ c. search needs) (λ c κs. search needs) (λ c κs. search needs)
+    (λ c. search needs) (λ c κs. search needs) (λ c κs. search needs) (λ c. search needs) (λ c. search needs) (λ c. search needs) returns returns-2
+    returns-3 returns-4 returns-5 returns-6 returns-7 returns-8 returns-9)

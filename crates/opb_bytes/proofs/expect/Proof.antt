@@ -7,34 +7,13 @@ use Rattle.opb_bytes.specs.Grammar.{expect}
 use Rattle.opb_bytes.proofs.expect.Statement.{statement}
 use Rattle.opb_bytes.proofs.expect.Tie as tie
 
-shared-slice-read-if1 : tie.Need-shared-slice-read-if1
-shared-slice-read-if1 c = search needs
-
-wrong-requires : tie.Need-wrong-requires
-wrong-requires c κs = search needs
-
 returns : tie.Need-returns
 unfolding expect
 returns c = simp (c .wrong .ensures, ne-eqb _ _ (c .before .if1 .taken))
 
-add-if2 : tie.Need-add-if2
-add-if2 c = search needs
-
-sign-requires : tie.Need-sign-requires
-sign-requires c κs = search needs
-
-numbered-requires : tie.Need-numbered-requires
-numbered-requires c κs = search needs
-
 returns-2 : tie.Need-returns-2
 unfolding expect
 returns-2 c = simp (c .numbered .ensures, c .before .sign .ensures, eq-eqb _ _ (sym (add-one (c .before .before .before .before .before .before .args .s .matched)) ∙ c .before .before .if2 .taken), eq-eqb _ _ (c .before .before .before .if1 .left))
-
-add-matching : tie.Need-add-matching
-add-matching c = search needs
-
-matching-requires : tie.Need-matching-requires
-matching-requires c κs = search needs
 
 returns-3 : tie.Need-returns-3
 unfolding expect
@@ -44,13 +23,5 @@ pub expect-spec : {M : Type 1} → statement M
 expect-spec =
     tie.close
     (tie.spec
-    shared-slice-read-if1
-    wrong-requires
-    returns
-    add-if2
-    sign-requires
-    numbered-requires
-    returns-2
-    add-matching
-    matching-requires
-    returns-3)
+    (λ c. search needs) (λ c κs. search needs) returns (λ c. search needs) (λ c κs. search needs) (λ c κs. search needs) returns-2 (λ c. search needs)
+    (λ c κs. search needs) returns-3)

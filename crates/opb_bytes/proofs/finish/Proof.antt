@@ -5,22 +5,13 @@ use Rattle.opb_bytes.specs.Grammar.{finish}
 use Rattle.opb_bytes.proofs.finish.Statement.{statement}
 use Rattle.opb_bytes.proofs.finish.Tie as tie
 
-moved-requires : tie.Need-moved-requires
-moved-requires c κs = search needs
-
 returns : tie.Need-returns
 unfolding finish
 returns c = simp (c .moved .ensures, eq-eqb _ _ (c .before .if1 .taken))
 
-wrong-requires : tie.Need-wrong-requires
-wrong-requires c κs = search needs
-
 returns-2 : tie.Need-returns-2
 unfolding finish
 returns-2 c = simp (c .wrong .ensures, ne-eqb _ _ (c .before .if2 .taken), ne-eqb _ _ (c .before .before .if1 .left))
-
-counting-requires : tie.Need-counting-requires
-counting-requires c κs = search needs
 
 returns-3 : tie.Need-returns-3
 unfolding finish
@@ -29,4 +20,5 @@ returns-3 c = simp (c .counting .ensures, eq-eqb _ _ (c .before .before .if2 .le
 pub finish-spec : {M : Type 1} → statement M
 finish-spec =
     tie.close
-    (tie.spec moved-requires returns wrong-requires returns-2 counting-requires returns-3)
+    (tie.spec
+    (λ c κs. search needs) returns (λ c κs. search needs) returns-2 (λ c κs. search needs) returns-3)

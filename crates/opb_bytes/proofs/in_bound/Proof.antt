@@ -6,22 +6,13 @@ use Rattle.opb_bytes.specs.Grammar.{place}
 use Rattle.opb_bytes.proofs.in_bound.Statement.{statement}
 use Rattle.opb_bytes.proofs.in_bound.Tie as tie
 
-digits-requires : tie.Need-digits-requires
-digits-requires c κs = search needs
-
 returns : tie.Need-returns
 unfolding place
 returns c = simp (c .digits .ensures, eq-eqb _ _ (c .before .if1 .taken))
 
-long-fault-requires : tie.Need-long-fault-requires
-long-fault-requires c κs = search needs
-
 returns-2 : tie.Need-returns-2
 unfolding place
 returns-2 c = simp (ne-eqb _ _ (c .if2 .taken), sym (c .before .long-fault .ensures), ne-eqb _ _ (c .before .before .if1 .left))
-
-finish-requires : tie.Need-finish-requires
-finish-requires c κs = search needs
 
 returns-3 : tie.Need-returns-3
 unfolding place
@@ -30,4 +21,5 @@ returns-3 c = simp (c .finish .ensures, eq-eqb _ _ (c .before .if2 .left), sym (
 pub in-bound-spec : {M : Type 1} → statement M
 in-bound-spec =
     tie.close
-    (tie.spec digits-requires returns long-fault-requires returns-2 finish-requires returns-3)
+    (tie.spec
+    (λ c κs. search needs) returns (λ c κs. search needs) returns-2 (λ c κs. search needs) returns-3)

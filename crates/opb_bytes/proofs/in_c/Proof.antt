@@ -6,36 +6,21 @@ use Rattle.opb_bytes.specs.Grammar.{place}
 use Rattle.opb_bytes.proofs.in_c.Statement.{statement}
 use Rattle.opb_bytes.proofs.in_c.Tie as tie
 
-digits-requires : tie.Need-digits-requires
-digits-requires c κs = search needs
-
 returns : tie.Need-returns
 unfolding place
 returns c = simp (c .digits .ensures, eq-eqb _ _ (c .before .if1 .taken))
-
-c-fault-requires : tie.Need-c-fault-requires
-c-fault-requires c κs = search needs
 
 returns-2 : tie.Need-returns-2
 unfolding place
 returns-2 c = simp (ne-eqb _ _ (c .if2 .taken), sym (c .before .c-fault .ensures), ne-eqb _ _ (c .before .before .if1 .left))
 
-sizing-requires : tie.Need-sizing-requires
-sizing-requires c κs = search needs
-
 returns-3 : tie.Need-returns-3
 unfolding place
 returns-3 c = simp (c .sizing .ensures, eq-eqb _ _ (c .before .if3 .taken), eq-eqb _ _ (c .before .before .before .before .if2 .left), sym (c .before .before .before .before .before .c-fault .ensures), ne-eqb _ _ (c .before .before .before .before .before .before .if1 .left))
 
-sizing-requires-2 : tie.Need-sizing-requires-2
-sizing-requires-2 c κs = search needs
-
 returns-4 : tie.Need-returns-4
 unfolding place
 returns-4 c = simp (c .sizing2 .ensures, eq-eqb _ _ (c .before .if4 .taken), ne-eqb _ _ (c .before .before .if3 .left), eq-eqb _ _ (c .before .before .before .before .before .if2 .left), sym (c .before .before .before .before .before .before .c-fault .ensures), ne-eqb _ _ (c .before .before .before .before .before .before .before .if1 .left))
-
-wrong-requires : tie.Need-wrong-requires
-wrong-requires c κs = search needs
 
 returns-5 : tie.Need-returns-5
 unfolding place
@@ -45,13 +30,5 @@ pub in-c-spec : {M : Type 1} → statement M
 in-c-spec =
     tie.close
     (tie.spec
-    digits-requires
-    returns
-    c-fault-requires
-    returns-2
-    sizing-requires
-    returns-3
-    sizing-requires-2
-    returns-4
-    wrong-requires
-    returns-5)
+    (λ c κs. search needs) returns (λ c κs. search needs) returns-2 (λ c κs. search needs) returns-3 (λ c κs. search needs) returns-4
+    (λ c κs. search needs) returns-5)

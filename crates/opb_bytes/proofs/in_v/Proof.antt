@@ -9,22 +9,13 @@ use Rattle.opb_bytes.specs.declared.State.{State}
 use Rattle.opb_bytes.proofs.in_v.Statement.{statement}
 use Rattle.opb_bytes.proofs.in_v.Tie as tie
 
-digits-requires : tie.Need-digits-requires
-digits-requires c κs = search needs
-
 returns : tie.Need-returns
 unfolding place
 returns c = simp (c .digits .ensures, eq-eqb _ _ (c .before .if1 .taken))
 
-v-fault-requires : tie.Need-v-fault-requires
-v-fault-requires c κs = search needs
-
 returns-2 : tie.Need-returns-2
 unfolding place
 returns-2 c = simp (ne-eqb _ _ (c .if2 .taken), sym (c .before .v-fault .ensures), ne-eqb _ _ (c .before .before .if1 .left))
-
-sizing-requires : tie.Need-sizing-requires
-sizing-requires c κs = search needs
 
 middle-requires : tie.Need-middle-requires
 middle-requires c κs = subst (λ (t : State). t .matched < 14) (sym (c .sizing .ensures)) (omega arith)
@@ -37,10 +28,4 @@ pub in-v-spec : {M : Type 1} → statement M
 in-v-spec =
     tie.close
     (tie.spec
-    digits-requires
-    returns
-    v-fault-requires
-    returns-2
-    sizing-requires
-    middle-requires
-    returns-3)
+    (λ c κs. search needs) returns (λ c κs. search needs) returns-2 (λ c κs. search needs) middle-requires returns-3)

@@ -8,15 +8,9 @@ use Rattle.opb_bytes.proofs.Sums.{entry-left}
 use Rattle.opb_bytes.proofs.in_variable.Statement.{statement}
 use Rattle.opb_bytes.proofs.in_variable.Tie as tie
 
-digits-requires : tie.Need-digits-requires
-digits-requires c κs = search needs
-
 returns : tie.Need-returns
 unfolding place
 returns c = simp (c .digits .ensures, eq-eqb _ _ (c .before .if1 .taken))
-
-variable-fault-requires : tie.Need-variable-fault-requires
-variable-fault-requires c κs = search needs
 
 returns-2 : tie.Need-returns-2
 unfolding place
@@ -29,9 +23,6 @@ returns-3 : tie.Need-returns-3
 unfolding place
 returns-3 c = simp (c .term .ensures, eq-eqb _ _ (c .before .if3 .taken), eq-eqb _ _ (c .before .before .if2 .left), sym (c .before .before .before .variable-fault .ensures), ne-eqb _ _ (c .before .before .before .before .if1 .left))
 
-wrong-requires : tie.Need-wrong-requires
-wrong-requires c κs = search needs
-
 returns-4 : tie.Need-returns-4
 unfolding place
 returns-4 c = simp (c .wrong .ensures, ne-eqb _ _ (c .before .if3 .left), eq-eqb _ _ (c .before .before .if2 .left), sym (c .before .before .before .variable-fault .ensures), ne-eqb _ _ (c .before .before .before .before .if1 .left))
@@ -40,11 +31,4 @@ pub in-variable-spec : {M : Type 1} → statement M
 in-variable-spec =
     tie.close
     (tie.spec
-    digits-requires
-    returns
-    variable-fault-requires
-    returns-2
-    term-requires
-    returns-3
-    wrong-requires
-    returns-4)
+    (λ c κs. search needs) returns (λ c κs. search needs) returns-2 term-requires returns-3 (λ c κs. search needs) returns-4)

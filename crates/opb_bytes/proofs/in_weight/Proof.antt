@@ -6,29 +6,17 @@ use Rattle.opb_bytes.specs.Grammar.{place}
 use Rattle.opb_bytes.proofs.in_weight.Statement.{statement}
 use Rattle.opb_bytes.proofs.in_weight.Tie as tie
 
-digits-requires : tie.Need-digits-requires
-digits-requires c κs = search needs
-
 returns : tie.Need-returns
 unfolding place
 returns c = simp (c .digits .ensures, eq-eqb _ _ (c .before .if1 .taken))
-
-long-fault-requires : tie.Need-long-fault-requires
-long-fault-requires c κs = search needs
 
 returns-2 : tie.Need-returns-2
 unfolding place
 returns-2 c = simp (ne-eqb _ _ (c .if2 .taken), sym (c .before .long-fault .ensures), ne-eqb _ _ (c .before .before .if1 .left))
 
-weighing-requires : tie.Need-weighing-requires
-weighing-requires c κs = search needs
-
 returns-3 : tie.Need-returns-3
 unfolding place
 returns-3 c = simp (c .weighing .ensures, eq-eqb _ _ (c .before .if3 .taken), eq-eqb _ _ (c .before .before .if2 .left), sym (c .before .before .before .long-fault .ensures), ne-eqb _ _ (c .before .before .before .before .if1 .left))
-
-wrong-requires : tie.Need-wrong-requires
-wrong-requires c κs = search needs
 
 returns-4 : tie.Need-returns-4
 unfolding place
@@ -38,11 +26,4 @@ pub in-weight-spec : {M : Type 1} → statement M
 in-weight-spec =
     tie.close
     (tie.spec
-    digits-requires
-    returns
-    long-fault-requires
-    returns-2
-    weighing-requires
-    returns-3
-    wrong-requires
-    returns-4)
+    (λ c κs. search needs) returns (λ c κs. search needs) returns-2 (λ c κs. search needs) returns-3 (λ c κs. search needs) returns-4)

@@ -5,19 +5,15 @@ use Rattle.opb_bytes.specs.Grammar.{place}
 use Rattle.opb_bytes.proofs.line_start.Statement.{statement}
 use Rattle.opb_bytes.proofs.line_start.Tie as tie
 
-moved-requires : tie.Need-moved-requires
-moved-requires c κs = search needs
-
 returns : tie.Need-returns
 unfolding place
 returns c = simp (c .moved .ensures, eq-eqb _ _ (c .before .if1 .taken))
-
-between-requires : tie.Need-between-requires
-between-requires c κs = search needs
 
 returns-2 : tie.Need-returns-2
 unfolding place
 returns-2 c = simp (c .between .ensures, ne-eqb _ _ (c .before .if1 .left))
 
 pub line-start-spec : {M : Type 1} → statement M
-line-start-spec = tie.close (tie.spec moved-requires returns between-requires returns-2)
+line-start-spec = tie.close
+    (tie.spec
+    (λ c κs. search needs) returns (λ c κs. search needs) returns-2)

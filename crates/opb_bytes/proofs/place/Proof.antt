@@ -13,137 +13,11 @@ use Rattle.opb_bytes.proofs.place.Tie as tie
 placed : (s : State) (b k : ℕ) {p : Phase} {r : Next} → s .phase ≡ p → r ≡ place p s b k → r ≡ place (s .phase) s b k
 placed s b k e h = h ∙ ap (λ (p : Phase). place p s b k) (sym e)
 
-enum-told : tie.Need-enum-told
-enum-told c = search needs
-
 opening-requires : tie.Need-opening-requires
 opening-requires c κs = subst (λ (p : Phase). c .before .before .args .s .matched < fixed p) (c .enum-told .given .1) (c .before .before .pre .matched)
 
-enum-told-2 : tie.Need-enum-told-2
-enum-told-2 c = search needs
-
-digits-requires : tie.Need-digits-requires
-digits-requires c κs = search needs
-
-enum-told-3 : tie.Need-enum-told-3
-enum-told-3 c = search needs
-
-in-v-requires : tie.Need-in-v-requires
-in-v-requires c κs = search needs
-
-enum-told-4 : tie.Need-enum-told-4
-enum-told-4 c = search needs
-
 middle-requires : tie.Need-middle-requires
 middle-requires c κs = subst (λ (p : Phase). c .before .before .args .s .matched < fixed p) (c .enum-told4 .given .1) (c .before .before .pre .matched)
-
-enum-told-5 : tie.Need-enum-told-5
-enum-told-5 c = search needs
-
-digits-requires-2 : tie.Need-digits-requires-2
-digits-requires-2 c κs = search needs
-
-enum-told-6 : tie.Need-enum-told-6
-enum-told-6 c = search needs
-
-in-c-requires : tie.Need-in-c-requires
-in-c-requires c κs = search needs
-
-enum-told-7 : tie.Need-enum-told-7
-enum-told-7 c = search needs
-
-after-return-requires : tie.Need-after-return-requires
-after-return-requires c κs = search needs
-
-enum-told-8 : tie.Need-enum-told-8
-enum-told-8 c = search needs
-
-line-start-requires : tie.Need-line-start-requires
-line-start-requires c κs = search needs
-
-enum-told-9 : tie.Need-enum-told-9
-enum-told-9 c = search needs
-
-between-requires : tie.Need-between-requires
-between-requires c κs = search needs
-
-enum-told-10 : tie.Need-enum-told-10
-enum-told-10 c = search needs
-
-comment-requires : tie.Need-comment-requires
-comment-requires c κs = search needs
-
-enum-told-11 : tie.Need-enum-told-11
-enum-told-11 c = search needs
-
-digits-requires-3 : tie.Need-digits-requires-3
-digits-requires-3 c κs = search needs
-
-enum-told-12 : tie.Need-enum-told-12
-enum-told-12 c = search needs
-
-in-weight-requires : tie.Need-in-weight-requires
-in-weight-requires c κs = search needs
-
-enum-told-13 : tie.Need-enum-told-13
-enum-told-13 c = search needs
-
-before-x-requires : tie.Need-before-x-requires
-before-x-requires c κs = search needs
-
-enum-told-14 : tie.Need-enum-told-14
-enum-told-14 c = search needs
-
-before-variable-requires : tie.Need-before-variable-requires
-before-variable-requires c κs = search needs
-
-enum-told-15 : tie.Need-enum-told-15
-enum-told-15 c = search needs
-
-in-variable-requires : tie.Need-in-variable-requires
-in-variable-requires c κs = search needs
-
-enum-told-16 : tie.Need-enum-told-16
-enum-told-16 c = search needs
-
-after-term-requires : tie.Need-after-term-requires
-after-term-requires c κs = search needs
-
-enum-told-17 : tie.Need-enum-told-17
-enum-told-17 c = search needs
-
-after-greater-requires : tie.Need-after-greater-requires
-after-greater-requires c κs = search needs
-
-enum-told-18 : tie.Need-enum-told-18
-enum-told-18 c = search needs
-
-after-relation-requires : tie.Need-after-relation-requires
-after-relation-requires c κs = search needs
-
-enum-told-19 : tie.Need-enum-told-19
-enum-told-19 c = search needs
-
-before-bound-requires : tie.Need-before-bound-requires
-before-bound-requires c κs = search needs
-
-enum-told-20 : tie.Need-enum-told-20
-enum-told-20 c = search needs
-
-digits-requires-4 : tie.Need-digits-requires-4
-digits-requires-4 c κs = search needs
-
-enum-told-21 : tie.Need-enum-told-21
-enum-told-21 c = search needs
-
-in-bound-requires : tie.Need-in-bound-requires
-in-bound-requires c κs = search needs
-
-enum-told-22 : tie.Need-enum-told-22
-enum-told-22 c = search needs
-
-finish-requires : tie.Need-finish-requires
-finish-requires c κs = search needs
 
 returns : tie.Need-returns
 unfolding place
@@ -237,69 +111,12 @@ pub place-spec : {M : Type 1} → statement M
 place-spec =
     tie.close
     (tie.spec
-    enum-told
-    opening-requires
-    enum-told-2
-    digits-requires
-    enum-told-3
-    in-v-requires
-    enum-told-4
-    middle-requires
-    enum-told-5
-    digits-requires-2
-    enum-told-6
-    in-c-requires
-    enum-told-7
-    after-return-requires
-    enum-told-8
-    line-start-requires
-    enum-told-9
-    between-requires
-    enum-told-10
-    comment-requires
-    enum-told-11
-    digits-requires-3
-    enum-told-12
-    in-weight-requires
-    enum-told-13
-    before-x-requires
-    enum-told-14
-    before-variable-requires
-    enum-told-15
-    in-variable-requires
-    enum-told-16
-    after-term-requires
-    enum-told-17
-    after-greater-requires
-    enum-told-18
-    after-relation-requires
-    enum-told-19
-    before-bound-requires
-    enum-told-20
-    digits-requires-4
-    enum-told-21
-    in-bound-requires
-    enum-told-22
-    finish-requires
-    returns
-    returns-2
-    returns-3
-    returns-4
-    returns-5
-    returns-6
-    returns-7
-    returns-8
-    returns-9
-    returns-10
-    returns-11
-    returns-12
-    returns-13
-    returns-14
-    returns-15
-    returns-16
-    returns-17
-    returns-18
-    returns-19
-    returns-20
-    returns-21
-    returns-22)
+    (λ c. search needs) opening-requires (λ c. search needs) (λ c κs. search needs) (λ c. search needs) (λ c κs. search needs) (λ c. search needs)
+    middle-requires (λ c. search needs) (λ c κs. search needs) (λ c. search needs) (λ c κs. search needs) (λ c. search needs) (λ c κs. search needs)
+    (λ c. search needs) (λ c κs. search needs) (λ c. search needs) (λ c κs. search needs) (λ c. search needs) (λ c κs. search needs)
+    (λ c. search needs) (λ c κs. search needs) (λ c. search needs) (λ c κs. search needs) (λ c. search needs) (λ c κs. search needs)
+    (λ c. search needs) (λ c κs. search needs) (λ c. search needs) (λ c κs. search needs) (λ c. search needs) (λ c κs. search needs)
+    (λ c. search needs) (λ c κs. search needs) (λ c. search needs) (λ c κs. search needs) (λ c. search needs) (λ c κs. search needs)
+    (λ c. search needs) (λ c κs. search needs) (λ c. search needs) (λ c κs. search needs) (λ c. search needs) (λ c κs. search needs) returns returns-2
+    returns-3 returns-4 returns-5 returns-6 returns-7 returns-8 returns-9 returns-10 returns-11 returns-12 returns-13 returns-14 returns-15 returns-16
+    returns-17 returns-18 returns-19 returns-20 returns-21 returns-22)

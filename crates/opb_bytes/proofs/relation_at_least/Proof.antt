@@ -11,15 +11,11 @@ returns : tie.Need-returns
 unfolding relation-at-least
 returns c = simp (lt-leb (c .before .before .before .args .s .counts .sentences + 1) 256 (omega arith))
 
-add-t5 : tie.Need-add-t5
-add-t5 c = search needs
-
-counting-requires : tie.Need-counting-requires
-counting-requires c κs = search needs
-
 returns-2 : tie.Need-returns-2
 unfolding relation-at-least
 returns-2 c = simp (c .counting .ensures, le-leb (c .before .before .before .before .before .args .s .counts .sentences + 1) 256 (omega arith))
 
 pub relation-at-least-spec : {M : Type 1} → statement M
-relation-at-least-spec = tie.close (tie.spec returns add-t5 counting-requires returns-2)
+relation-at-least-spec = tie.close
+    (tie.spec
+    returns (λ c. search needs) (λ c κs. search needs) returns-2)

@@ -12,21 +12,12 @@ returns : tie.Need-returns
 unfolding relation-equal
 returns c = simp (lt-leb (c .before .before .before .args .s .counts .sentences + 2) 256 (omega arith))
 
-within-requires : tie.Need-within-requires
-within-requires c κs = search needs
-
 returns-2 : tie.Need-returns-2
 unfolding relation-equal
 returns-2 c = simp (sym (c .before .within .ensures) ∙ not-true _ (c .if2 .taken), le-leb (c .before .before .before .before .before .args .s .counts .sentences + 2) 256 (omega arith))
 
 add-t6 : tie.Need-add-t6
 add-t6 c = omega (arith, leb-true (c .before .before .before .before .before .before .args .s .counts .entries + c .before .before .before .before .before .before .args .s .counts .terms) 4096 (sym (c .before .before .within .ensures) ∙ not-false _ (c .before .if2 .left)))
-
-add-t7 : tie.Need-add-t7
-add-t7 c = search needs
-
-counting-requires : tie.Need-counting-requires
-counting-requires c κs = search needs
 
 returns-3 : tie.Need-returns-3
 unfolding relation-equal
@@ -35,4 +26,5 @@ returns-3 c = simp (c .counting .ensures, sym (c .before .before .before .before
 pub relation-equal-spec : {M : Type 1} → statement M
 relation-equal-spec =
     tie.close
-    (tie.spec returns within-requires returns-2 add-t6 add-t7 counting-requires returns-3)
+    (tie.spec
+    returns (λ c κs. search needs) returns-2 add-t6 (λ c. search needs) (λ c κs. search needs) returns-3)

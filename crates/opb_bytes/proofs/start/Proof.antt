@@ -3,11 +3,10 @@ use borrow.Author.Needs.{needs}
 use Rattle.opb_bytes.proofs.start.Statement.{statement}
 use Rattle.opb_bytes.proofs.start.Tie as tie
 
-sign-requires : tie.Need-sign-requires
-sign-requires c κs = search needs
-
 returns : tie.Need-returns
 returns c = rw (c .sign .ensures)
 
 pub start-spec : {M : Type 1} → statement M
-start-spec = tie.close (tie.spec sign-requires returns)
+start-spec = tie.close
+    (tie.spec
+    (λ c κs. search needs) returns)

@@ -9,12 +9,11 @@ returns : tie.Need-returns
 unfolding v-fault
 returns c = simp (eq-eqb _ _ (c .if1 .taken))
 
-long-fault-requires : tie.Need-long-fault-requires
-long-fault-requires c κs = search needs
-
 returns-2 : tie.Need-returns-2
 unfolding v-fault
 returns-2 c = simp (c .long-fault .ensures, ne-eqb _ _ (c .before .if1 .left))
 
 pub v-fault-spec : {M : Type 1} → statement M
-v-fault-spec = tie.close (tie.spec returns long-fault-requires returns-2)
+v-fault-spec = tie.close
+    (tie.spec
+    returns (λ c κs. search needs) returns-2)

@@ -14,4 +14,6 @@ returns-2 : tie.Need-returns-2
 returns-2 c = within-is (c .before .args .a) (c .before .args .b) (c .before .args .limit) (c .if1 .left)
 
 pub within-spec : {M : Type 1} → statement M
-within-spec = tie.close (tie.spec returns returns-2)
+within-spec = tie.close
+    (tie.spec
+    returns returns-2)

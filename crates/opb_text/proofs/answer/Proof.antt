@@ -6,32 +6,17 @@ use Rattle.opb_text.specs.States.{answer-at}
 use Rattle.opb_text.proofs.answer.Statement.{statement}
 use Rattle.opb_text.proofs.answer.Tie as tie
 
-ends-requires : tie.Need-ends-requires
-ends-requires c κs = search needs
-
-refusal-requires : tie.Need-refusal-requires
-refusal-requires c κs = search needs
-
 returns : tie.Need-returns
 unfolding answer-at
 returns c = simp (c .refusal .ensures, ne-eqb _ _ (c .before .if1 .taken), sym (c .before .before .ends .ensures))
-
-refusal-requires-2 : tie.Need-refusal-requires-2
-refusal-requires-2 c κs = search needs
 
 returns-2 : tie.Need-returns-2
 unfolding answer-at
 returns-2 c = simp (c .refusal2 .ensures, ne-eqb _ _ (c .before .if2 .taken), eq-eqb _ _ (c .before .before .before .before .if1 .left), sym (c .before .before .before .before .before .ends .ensures))
 
-refusal-requires-3 : tie.Need-refusal-requires-3
-refusal-requires-3 c κs = search needs
-
 returns-3 : tie.Need-returns-3
 unfolding answer-at
 returns-3 c = simp (c .refusal3 .ensures, lt-ltb _ _ (c .before .if3 .taken), eq-eqb _ _ (c .before .before .before .before .if2 .left), eq-eqb _ _ (c .before .before .before .before .before .before .before .if1 .left), sym (c .before .before .before .before .before .before .before .before .ends .ensures))
-
-refusal-requires-4 : tie.Need-refusal-requires-4
-refusal-requires-4 c κs = search needs
 
 returns-4 : tie.Need-returns-4
 unfolding answer-at
@@ -45,13 +30,5 @@ pub answer-spec : {M : Type 1} → statement M
 answer-spec =
     tie.close
     (tie.spec
-    ends-requires
-    refusal-requires
-    returns
-    refusal-requires-2
-    returns-2
-    refusal-requires-3
-    returns-3
-    refusal-requires-4
-    returns-4
-    returns-5)
+    (λ c κs. search needs) (λ c κs. search needs) returns (λ c κs. search needs) returns-2 (λ c κs. search needs) returns-3 (λ c κs. search needs)
+    returns-4 returns-5)

@@ -18,11 +18,10 @@ sub-from-2 c = omega (arith, two-copies (c .before .before .before .args .s) (c 
 repeat-requires : tie.Need-repeat-requires
 repeat-requires c κs = omega (arith, two-copies (c .before .before .before .before .args .s) (c .before .before .before .before .args .column .now) (not-false _ (c .before .if1 .left)) (c .before .before .before .before .pre .0))
 
-same-length : tie.Need-same-length
-same-length c = search needs
-
 returns-2 : tie.Need-returns-2
 returns-2 c = is-copied (c .before .before .before .before .before .before .args .s) (c .before .before .before .before .before .before .args .column .now) (not-false _ (c .before .before .before .if1 .left)) (two-copies (c .before .before .before .before .before .before .args .s) (c .before .before .before .before .before .before .args .column .now) (not-false _ (c .before .before .before .if1 .left)) (c .before .before .before .before .before .before .pre .0)) (c .before .repeat .last .0) (c .before .repeat .ensures)
 
 pub copy-spec : {M : Type 1} → statement M
-copy-spec = tie.close (tie.spec returns sub-from sub-from-2 repeat-requires same-length returns-2)
+copy-spec = tie.close
+    (tie.spec
+    returns sub-from sub-from-2 repeat-requires (λ c. search needs) returns-2)

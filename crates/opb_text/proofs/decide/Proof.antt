@@ -14,68 +14,26 @@ Inv-loop text sentences entries s₀ complete₀ i₀ s complete i = Sofar text 
 abbrev μ-loop : tie.MeasureT-loop
 μ-loop text sentences entries s₀ complete₀ i₀ s complete i = length text - i
 
-refusal-requires : tie.Need-refusal-requires Inv-loop μ-loop
-refusal-requires c κs = search needs
-
 returns : tie.Need-returns Inv-loop μ-loop
 returns c = c .refusal .ensures ∙ long-answer (c .before .before .before .args .text .now) (c .before .before .before .args .sentences) (c .before .before .before .args .entries) (c .before .if1 .taken)
-
-start-requires : tie.Need-start-requires Inv-loop μ-loop
-start-requires c κs = search needs
 
 loop-holds : tie.Need-loop-holds Inv-loop μ-loop
 loop-holds c = first (c .before .before .before .args .text .now) (c .start .result) (c .start .ensures) (c .before .if1 .left)
 
-shared-slice-read-b : tie.Need-shared-slice-read-b Inv-loop μ-loop
-shared-slice-read-b c = omega arith
-
-add-i : tie.Need-add-i Inv-loop μ-loop
-add-i c = omega arith
-
 step-requires : tie.Need-step-requires Inv-loop μ-loop
 step-requires c κs = sound-here (c .before .before .loop .inv)
-
-enum-known-t : tie.Need-enum-known-t Inv-loop μ-loop
-enum-known-t c = search needs
-
-loop-less : tie.Need-loop-less Inv-loop μ-loop
-loop-less c = omega arith
 
 loop-again : tie.Need-loop-again Inv-loop μ-loop
 loop-again c = more (c .before .before .before .before .before .before .loop .inv) (c .before .before .before .before .before .loop-test .taken) (c .before .before .before .step .ensures) (c .before .t .given .0 .0) (c .before .t .given .1)
 
-enum-known-t-2 : tie.Need-enum-known-t-2 Inv-loop μ-loop
-enum-known-t-2 c = search needs
-
-loop-less-2 : tie.Need-loop-less-2 Inv-loop μ-loop
-loop-less-2 c = omega arith
-
 loop-again-2 : tie.Need-loop-again-2 Inv-loop μ-loop
 loop-again-2 c = term (c .before .before .before .before .before .before .loop .inv) (c .before .before .before .before .before .loop-test .taken) (c .before .before .before .step .ensures) (c .before .t2 .given .0 .0) (c .before .t2 .given .1)
-
-enum-known-t-3 : tie.Need-enum-known-t-3 Inv-loop μ-loop
-enum-known-t-3 c = search needs
-
-add-complete : tie.Need-add-complete Inv-loop μ-loop
-add-complete c = omega (arith, c .before .before .before .before .before .before .loop .inv .few)
-
-loop-less-3 : tie.Need-loop-less-3 Inv-loop μ-loop
-loop-less-3 c = omega arith
 
 loop-again-3 : tie.Need-loop-again-3 Inv-loop μ-loop
 loop-again-3 c = constraint (c .before .before .before .before .before .before .loop .inv) (c .before .before .before .before .before .loop-test .taken) (c .before .before .before .step .ensures) (c .before .t3 .given .0 .0) (c .before .t3 .given .1)
 
-enum-known-n : tie.Need-enum-known-n Inv-loop μ-loop
-enum-known-n c = search needs
-
-refusal-requires-2 : tie.Need-refusal-requires-2 Inv-loop μ-loop
-refusal-requires-2 c κs = search needs
-
 returns-2 : tie.Need-returns-2 Inv-loop μ-loop
 returns-2 c = c .refusal2 .ensures ∙ fault (c .before .before .before .before .before .before .before .loop .inv) (c .before .before .before .before .before .before .loop-test .taken) (c .before .before .before .before .step .ensures) (c .before .before .before .before .before .before .before .before .before .before .before .args .sentences) (c .before .before .before .before .before .before .before .before .before .before .before .args .entries) (c .before .before .n .given .0 .0) (c .before .before .n .given .1)
-
-answer-requires : tie.Need-answer-requires Inv-loop μ-loop
-answer-requires c κs = search needs
 
 returns-3 : tie.Need-returns-3 Inv-loop μ-loop
 returns-3 c = c .answer .ensures ∙ end (c .before .before .loop .inv) (c .before .before .before .before .before .before .args .sentences) (c .before .before .before .before .before .before .args .entries) (c .before .loop-test .left)
@@ -84,27 +42,7 @@ pub decide-spec : {M : Type 1} → statement M
 decide-spec =
     tie.close
     (tie.spec
-    Inv-loop
-    μ-loop
-    refusal-requires
-    returns
-    start-requires
-    loop-holds
-    shared-slice-read-b
-    add-i
-    step-requires
-    enum-known-t
-    loop-less
-    loop-again
-    enum-known-t-2
-    loop-less-2
-    loop-again-2
-    enum-known-t-3
-    add-complete
-    loop-less-3
-    loop-again-3
-    enum-known-n
-    refusal-requires-2
-    returns-2
-    answer-requires
-    returns-3)
+    Inv-loop μ-loop (λ c κs. search needs) returns (λ c κs. search needs) loop-holds (λ c. omega arith) (λ c. omega arith) step-requires
+    (λ c. search needs) (λ c. omega arith) loop-again (λ c. search needs) (λ c. omega arith) loop-again-2 (λ c. search needs)
+    (λ c. omega (arith, c .before .before .before .before .before .before .loop .inv .few)) (λ c. omega arith) loop-again-3 (λ c. search needs)
+    (λ c κs. search needs) returns-2 (λ c κs. search needs) returns-3)

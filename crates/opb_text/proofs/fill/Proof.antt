@@ -15,35 +15,14 @@ Inv-loop text heads₀ kinds₀ sides₀ bounds₀ counts₀ weights₀ literals
 abbrev μ-loop : tie.MeasureT-loop
 μ-loop text heads₀ kinds₀ sides₀ bounds₀ counts₀ weights₀ literals₀ s₀ head₀ i₀ heads kinds sides bounds counts weights literals s head i = length text - i
 
-start-requires : tie.Need-start-requires Inv-loop μ-loop
-start-requires c κs = search needs
-
-add-head : tie.Need-add-head Inv-loop μ-loop
-add-head c = omega (arith, few-variables (c .before .before .before .before .before .before .before .pre))
-
 loop-holds : tie.Need-loop-holds Inv-loop μ-loop
 loop-holds c = first (c .before .before .before .before .before .before .before .pre) (c .before .start .ensures)
-
-shared-slice-read-b : tie.Need-shared-slice-read-b Inv-loop μ-loop
-shared-slice-read-b c = omega (arith, c .before .loop-test .taken)
-
-add-i : tie.Need-add-i Inv-loop μ-loop
-add-i c = omega (arith, c .before .loop-test .taken)
 
 step-requires : tie.Need-step-requires Inv-loop μ-loop
 step-requires c κs = sound-here (c .before .before .loop .inv)
 
-enum-known-t : tie.Need-enum-known-t Inv-loop μ-loop
-enum-known-t c = search needs
-
-loop-less : tie.Need-loop-less Inv-loop μ-loop
-loop-less c = omega (arith, c .before .before .before .before .before .loop-test .taken)
-
 loop-again : tie.Need-loop-again Inv-loop μ-loop
 loop-again c = more (c .before .before .before .before .before .before .loop .inv) (c .before .before .before .before .before .loop-test .taken) (c .before .before .before .step .ensures) (c .before .t .given .0 .0) (c .before .t .given .1)
-
-enum-known-t-2 : tie.Need-enum-known-t-2 Inv-loop μ-loop
-enum-known-t-2 c = search needs
 
 put-term-requires : tie.Need-put-term-requires Inv-loop μ-loop
 put-term-requires c κs = term-room (c .before .before .before .before .before .before .before .before .loop .inv) (c .before .before .before .before .before .before .before .loop-test .taken) (c .before .before .before .before .before .step .ensures) (c .before .before .before .t2 .given .0 .0) (c .before .before .before .t2 .given .1)
@@ -53,9 +32,6 @@ loop-less-2 c = omega (arith, c .before .before .before .before .before .before 
 
 loop-again-2 : tie.Need-loop-again-2 Inv-loop μ-loop
 loop-again-2 c = term (c .before .before .before .before .before .before .before .before .before .before .before .loop .inv) (c .before .before .before .before .before .before .before .before .before .before .loop-test .taken) (c .before .before .before .before .before .before .before .before .step .ensures) (c .before .before .before .before .before .before .t2 .given .0 .0) (c .before .before .before .before .before .before .t2 .given .1) (c .before .before .put-term .ensures .0) (c .before .before .put-term .ensures .1)
-
-enum-known-t-3 : tie.Need-enum-known-t-3 Inv-loop μ-loop
-enum-known-t-3 c = search needs
 
 put-rows-requires : tie.Need-put-rows-requires Inv-loop μ-loop
 put-rows-requires c κs = rows-room (c .before .before .before .before .before .before .before .before .before .before .before .before .before .loop .inv) (c .before .before .before .before .before .before .before .before .before .before .before .before .loop-test .taken) (c .before .before .before .before .before .before .before .before .before .before .step .ensures) (c .before .before .before .before .before .before .before .before .t3 .given .0 .0) (c .before .before .before .before .before .before .before .before .t3 .given .1)
@@ -68,9 +44,6 @@ loop-less-3 c = omega (arith, c .before .before .before .before .before .before 
 
 loop-again-3 : tie.Need-loop-again-3 Inv-loop μ-loop
 loop-again-3 c = constraint (c .before .before .before .before .before .before .before .before .before .before .before .before .before .before .before .before .before .before .before .before .before .before .before .before .before .loop .inv) (c .before .before .before .before .before .before .before .before .before .before .before .before .before .before .before .before .before .before .before .before .before .before .before .before .loop-test .taken) (c .before .before .before .before .before .before .before .before .before .before .before .before .before .before .before .before .before .before .before .before .before .before .step .ensures) (c .before .before .before .before .before .before .before .before .before .before .before .before .before .before .before .before .before .before .before .before .t3 .given .0 .0) (c .before .before .before .before .before .before .before .before .before .before .before .before .before .before .before .before .before .before .before .before .t3 .given .1) (c .before .before .before .before .before .before .before .before .before .before .before .put-rows .ensures)
-
-enum-told : tie.Need-enum-told Inv-loop μ-loop
-enum-told c = search needs
 
 same-length : tie.Need-same-length Inv-loop μ-loop
 same-length c = same-heads (c .before .before .before .before .before .loop .inv)
@@ -124,40 +97,9 @@ pub fill-spec : {M : Type 1} → statement M
 fill-spec =
     tie.close
     (tie.spec
-    Inv-loop
-    μ-loop
-    start-requires
-    add-head
-    loop-holds
-    shared-slice-read-b
-    add-i
-    step-requires
-    enum-known-t
-    loop-less
-    loop-again
-    enum-known-t-2
-    put-term-requires
-    loop-less-2
-    loop-again-2
-    enum-known-t-3
-    put-rows-requires
-    add-head-2
-    loop-less-3
-    loop-again-3
-    enum-told
-    same-length
-    same-length-2
-    same-length-3
-    same-length-4
-    same-length-5
-    same-length-6
-    same-length-7
-    returns
-    same-length-8
-    same-length-9
-    same-length-10
-    same-length-11
-    same-length-12
-    same-length-13
-    same-length-14
-    returns-2)
+    Inv-loop μ-loop (λ c κs. search needs) (λ c. omega (arith, few-variables (c .before .before .before .before .before .before .before .pre)))
+    loop-holds (λ c. omega (arith, c .before .loop-test .taken)) (λ c. omega (arith, c .before .loop-test .taken)) step-requires (λ c. search needs)
+    (λ c. omega (arith, c .before .before .before .before .before .loop-test .taken)) loop-again (λ c. search needs) put-term-requires loop-less-2
+    loop-again-2 (λ c. search needs) put-rows-requires add-head-2 loop-less-3 loop-again-3 (λ c. search needs) same-length same-length-2 same-length-3
+    same-length-4 same-length-5 same-length-6 same-length-7 returns same-length-8 same-length-9 same-length-10 same-length-11 same-length-12
+    same-length-13 same-length-14 returns-2)

@@ -10,14 +10,8 @@ use Rattle.opb_text.proofs.put.Tie as tie
 sub-column : tie.Need-sub-column
 sub-column c = some-row (c .before .before .before .args .s .equal) (c .before .before .before .args .s .counts .sentences) (c .before .before .before .pre .0)
 
-mul-column : tie.Need-mul-column
-mul-column c = search needs
-
 slice-write-column : tie.Need-slice-write-column
 slice-write-column c = omega (arith, some-row (c .before .before .before .args .s .equal) (c .before .before .before .args .s .counts .sentences) (c .before .before .before .pre .0))
-
-same-length : tie.Need-same-length
-same-length c = search needs
 
 returns : tie.Need-returns
 returns c = one-stored (c .before .before .before .args .column .now) (c .before .before .before .args .s .counts .sentences) (c .before .before .before .args .x) (c .before .before .before .args .y) (c .before .before .before .args .s .equal) (not-true _ (c .if1 .taken))
@@ -25,23 +19,14 @@ returns c = one-stored (c .before .before .before .args .column .now) (c .before
 sub-column-2 : tie.Need-sub-column-2
 sub-column-2 c = two-rows (c .before .before .before .args .s .equal) (c .before .before .before .args .s .counts .sentences) (not-false _ (c .if1 .left)) (c .before .before .before .pre .0)
 
-mul-column-2 : tie.Need-mul-column-2
-mul-column-2 c = search needs
-
 slice-write-column-2 : tie.Need-slice-write-column-2
 slice-write-column-2 c = omega (arith, two-rows (c .before .before .before .args .s .equal) (c .before .before .before .args .s .counts .sentences) (not-false _ (c .if1 .left)) (c .before .before .before .pre .0))
 
 sub-column-3 : tie.Need-sub-column-3
 sub-column-3 c = some-row (c .before .before .before .args .s .equal) (c .before .before .before .args .s .counts .sentences) (c .before .before .before .pre .0)
 
-mul-column-3 : tie.Need-mul-column-3
-mul-column-3 c = search needs
-
 slice-write-column-3 : tie.Need-slice-write-column-3
 slice-write-column-3 c = simp length-set (omega (arith, some-row (c .before .before .before .args .s .equal) (c .before .before .before .args .s .counts .sentences) (c .before .before .before .pre .0)))
-
-same-length-2 : tie.Need-same-length-2
-same-length-2 c = search needs
 
 returns-2 : tie.Need-returns-2
 returns-2 c = two-stored (c .before .before .before .args .column .now) (c .before .before .before .args .s .counts .sentences) (c .before .before .before .args .x) (c .before .before .before .args .y) (c .before .before .before .args .s .equal) (not-false _ (c .if1 .left)) (two-rows (c .before .before .before .args .s .equal) (c .before .before .before .args .s .counts .sentences) (not-false _ (c .if1 .left)) (c .before .before .before .pre .0))
@@ -50,16 +35,5 @@ pub put-spec : {M : Type 1} → statement M
 put-spec =
     tie.close
     (tie.spec
-    sub-column
-    mul-column
-    slice-write-column
-    same-length
-    returns
-    sub-column-2
-    mul-column-2
-    slice-write-column-2
-    sub-column-3
-    mul-column-3
-    slice-write-column-3
-    same-length-2
-    returns-2)
+    sub-column (λ c. search needs) slice-write-column (λ c. search needs) returns sub-column-2 (λ c. search needs) slice-write-column-2 sub-column-3
+    (λ c. search needs) slice-write-column-3 (λ c. search needs) returns-2)

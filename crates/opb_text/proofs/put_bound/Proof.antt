@@ -13,20 +13,11 @@ use Rattle.opb_text.proofs.Stores.{some-row, two-rows, one-stored, two-
 use Rattle.opb_text.proofs.put_bound.Statement.{statement}
 use Rattle.opb_text.proofs.put_bound.Tie as tie
 
-signed-value-requires : tie.Need-signed-value-requires
-signed-value-requires c κs = search needs
-
 sub-bound : tie.Need-sub-bound
 sub-bound c = some-row (c .before .before .before .before .before .args .s .equal) (c .before .before .before .before .before .args .s .counts .sentences) (c .before .before .before .before .before .pre .0)
 
-mul-bound : tie.Need-mul-bound
-mul-bound c = search needs
-
 slice-set-from-bound : tie.Need-slice-set-from-bound
 slice-set-from-bound c = omega (arith, some-row (c .before .before .before .before .before .args .s .equal) (c .before .before .before .before .before .args .s .counts .sentences) (c .before .before .before .before .before .pre .0))
-
-same-length : tie.Need-same-length
-same-length c = search needs
 
 returns : tie.Need-returns
 returns c = ap (set (c .before .before .before .before .before .args .column .now) (c .before .before .before .before .before .args .s .counts .sentences - 1)) (back (c .before .before .signed-value .result) (search needs) ∙ c .before .before .signed-value .ensures) ∙ one-stored (c .before .before .before .before .before .args .column .now) (c .before .before .before .before .before .args .s .counts .sentences) (signed-of (c .before .before .before .before .before .args .s .number)) (signed-of (c .before .before .before .before .before .args .s .number)) (c .before .before .before .before .before .args .s .equal) (not-true _ (c .if1 .taken))
@@ -34,23 +25,14 @@ returns c = ap (set (c .before .before .before .before .before .args .column .no
 sub-bound-2 : tie.Need-sub-bound-2
 sub-bound-2 c = two-rows (c .before .before .before .before .before .args .s .equal) (c .before .before .before .before .before .args .s .counts .sentences) (not-false _ (c .if1 .left)) (c .before .before .before .before .before .pre .0)
 
-mul-bound-2 : tie.Need-mul-bound-2
-mul-bound-2 c = search needs
-
 slice-set-from-bound-2 : tie.Need-slice-set-from-bound-2
 slice-set-from-bound-2 c = omega (arith, two-rows (c .before .before .before .before .before .args .s .equal) (c .before .before .before .before .before .args .s .counts .sentences) (not-false _ (c .if1 .left)) (c .before .before .before .before .before .pre .0))
 
 sub-bound-3 : tie.Need-sub-bound-3
 sub-bound-3 c = some-row (c .before .before .before .before .before .args .s .equal) (c .before .before .before .before .before .args .s .counts .sentences) (c .before .before .before .before .before .pre .0)
 
-mul-bound-3 : tie.Need-mul-bound-3
-mul-bound-3 c = search needs
-
 slice-set-from-bound-3 : tie.Need-slice-set-from-bound-3
 slice-set-from-bound-3 c = simp length-set (omega (arith, some-row (c .before .before .before .before .before .args .s .equal) (c .before .before .before .before .before .args .s .counts .sentences) (c .before .before .before .before .before .pre .0)))
-
-same-length-2 : tie.Need-same-length-2
-same-length-2 c = search needs
 
 returns-2 : tie.Need-returns-2
 returns-2 c = ap (λ (z : ℤ). set (set (c .before .before .before .before .before .args .column .now) (c .before .before .before .before .before .args .s .counts .sentences - 2) z) (c .before .before .before .before .before .args .s .counts .sentences - 1) z) (back (c .before .before .signed-value .result) (search needs) ∙ c .before .before .signed-value .ensures) ∙ two-stored (c .before .before .before .before .before .args .column .now) (c .before .before .before .before .before .args .s .counts .sentences) (signed-of (c .before .before .before .before .before .args .s .number)) (signed-of (c .before .before .before .before .before .args .s .number)) (c .before .before .before .before .before .args .s .equal) (not-false _ (c .if1 .left)) (two-rows (c .before .before .before .before .before .args .s .equal) (c .before .before .before .before .before .args .s .counts .sentences) (not-false _ (c .if1 .left)) (c .before .before .before .before .before .pre .0))
@@ -59,17 +41,5 @@ pub put-bound-spec : {M : Type 1} → statement M
 put-bound-spec =
     tie.close
     (tie.spec
-    signed-value-requires
-    sub-bound
-    mul-bound
-    slice-set-from-bound
-    same-length
-    returns
-    sub-bound-2
-    mul-bound-2
-    slice-set-from-bound-2
-    sub-bound-3
-    mul-bound-3
-    slice-set-from-bound-3
-    same-length-2
-    returns-2)
+    (λ c κs. search needs) sub-bound (λ c. search needs) slice-set-from-bound (λ c. search needs) returns sub-bound-2 (λ c. search needs)
+    slice-set-from-bound-2 sub-bound-3 (λ c. search needs) slice-set-from-bound-3 (λ c. search needs) returns-2)

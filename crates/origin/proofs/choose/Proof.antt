@@ -7,15 +7,6 @@ use borrow.Author.Needs.{needs}
 use Rattle.origin.proofs.choose.Statement.{statement}
 use Rattle.origin.proofs.choose.Tie as tie
 
-shared-slice-read-n : tie.Need-shared-slice-read-n
-shared-slice-read-n c = search needs
-
-shared-slice-read-count : tie.Need-shared-slice-read-count
-shared-slice-read-count c = search needs
-
-shared-slice-read-rows : tie.Need-shared-slice-read-rows
-shared-slice-read-rows c = search needs
-
 slice-write-marks : tie.Need-slice-write-marks
 slice-write-marks c = let s = c .before .before .before .before .before in
     let w = s .args .area .now in
@@ -50,11 +41,4 @@ pub choose-spec : {M : Type 1} → statement M
 choose-spec =
     tie.close
     (tie.spec
-    shared-slice-read-n
-    shared-slice-read-count
-    shared-slice-read-rows
-    slice-write-marks
-    mark-requires
-    count-chosen-requires
-    same-length
-    returns)
+    (λ c. search needs) (λ c. search needs) (λ c. search needs) slice-write-marks mark-requires count-chosen-requires same-length returns)

@@ -23,15 +23,6 @@ is-chosen-requires : tie.Need-is-chosen-requires Inv-loop μ-loop
 is-chosen-requires c κs = let p = c .before .before .before .before .pre in
     record { few = omega (arith, p .few); words = p .words; marks = omega (arith, p .marks) }
 
-add-found : tie.Need-add-found Inv-loop μ-loop
-add-found c = omega arith
-
-add-i : tie.Need-add-i Inv-loop μ-loop
-add-i c = omega arith
-
-loop-less : tie.Need-loop-less Inv-loop μ-loop
-loop-less c = omega arith
-
 loop-again : tie.Need-loop-again Inv-loop μ-loop
 loop-again c = let s = c .before .before .before .before .before .before in
     let w = s .args .area .now in
@@ -59,12 +50,4 @@ pub count-chosen-spec : {M : Type 1} → statement M
 count-chosen-spec =
     tie.close
     (tie.spec
-    Inv-loop
-    μ-loop
-    loop-holds
-    is-chosen-requires
-    add-found
-    add-i
-    loop-less
-    loop-again
-    returns)
+    Inv-loop μ-loop loop-holds is-chosen-requires (λ c. omega arith) (λ c. omega arith) (λ c. omega arith) loop-again returns)

@@ -9,25 +9,10 @@ use borrow.Author.Needs.{needs}
 use Rattle.origin.proofs.is_chosen.Statement.{statement}
 use Rattle.origin.proofs.is_chosen.Tie as tie
 
-shared-slice-read-if1 : tie.Need-shared-slice-read-if1
-shared-slice-read-if1 c = search needs
-
 returns : tie.Need-returns
 returns c = let s = c .before .before in
     ap {A = Bool} (λ b. not b && eqb (row-at (s .args .area .now) (s .args .n) (s .args .i) .reason) 0)
     (sym (eq-eqb (getD (s .args .marks .now) (s .args .i) 0) 0 (c .if1 .taken)))
-
-mul-result : tie.Need-mul-result
-mul-result c = search needs
-
-add-result : tie.Need-add-result
-add-result c = search needs
-
-mul-result-2 : tie.Need-mul-result-2
-mul-result-2 c = search needs
-
-shared-slice-read-result : tie.Need-shared-slice-read-result
-shared-slice-read-result c = search needs
 
 returns-2 : tie.Need-returns-2
 returns-2 c = let s = c .before .before .before in
@@ -38,10 +23,4 @@ pub is-chosen-spec : {M : Type 1} → statement M
 is-chosen-spec =
     tie.close
     (tie.spec
-    shared-slice-read-if1
-    returns
-    mul-result
-    add-result
-    mul-result-2
-    shared-slice-read-result
-    returns-2)
+    (λ c. search needs) returns (λ c. search needs) (λ c. search needs) (λ c. search needs) (λ c. search needs) returns-2)

@@ -18,24 +18,6 @@ abbrev μ-loop : tie.MeasureT-loop
 ready : (c : tie.Start Inv-loop μ-loop) → Ready (c .args .area .now) (c .args .n) (c .args .count) (record-at (c .args .n) (c .args .s))
 ready c = c .pre .0 .sentence (c .args .s) (c .pre .1)
 
-mul-base : tie.Need-mul-base Inv-loop μ-loop
-mul-base c = omega (arith, ready (c .before .before) .1 .own)
-
-mul-base-2 : tie.Need-mul-base-2 Inv-loop μ-loop
-mul-base-2 c = omega (arith, ready (c .before .before) .1 .own)
-
-add-base : tie.Need-add-base Inv-loop μ-loop
-add-base c = omega (arith, ready (c .before .before) .1 .own)
-
-add-merged : tie.Need-add-merged Inv-loop μ-loop
-add-merged c = omega (arith, ready (c .before .before) .1 .own)
-
-mul-merged : tie.Need-mul-merged Inv-loop μ-loop
-mul-merged c = omega (arith, ready (c .before .before) .1 .own)
-
-shared-slice-read-merged : tie.Need-shared-slice-read-merged Inv-loop μ-loop
-shared-slice-read-merged c = omega (arith, ready (c .before .before .before) .1 .own)
-
 loop-holds : tie.Need-loop-holds Inv-loop μ-loop
 loop-holds c = let q = c .before .before .before in
     let w = q .args .area .now in
@@ -64,9 +46,6 @@ slice-write-marks c = let q = c .before .before .before .before .before .before 
 add-place : tie.Need-add-place Inv-loop μ-loop
 add-place c = let r = ready (c .before .before .before .before .before .before .before) .1 in omega (arith, r .merged, r .fitting .each)
 
-loop-less : tie.Need-loop-less Inv-loop μ-loop
-loop-less c = omega arith
-
 loop-again : tie.Need-loop-again Inv-loop μ-loop
 loop-again c = let q = c .before .before .before .before .before .before .before in
     let w = q .args .area .now in
@@ -86,9 +65,6 @@ loop-again c = let q = c .before .before .before .before .before .before .before
           (c .if1 .came),
     )
 
-same-length : tie.Need-same-length Inv-loop μ-loop
-same-length c = c .before .loop .inv .1 .size
-
 returns : tie.Need-returns Inv-loop μ-loop
 returns c = let q = c .before .before .before .before .before in let x = c .before .loop in
     all-named (q .args .area .now) (q .args .n) (q .args .count) (q .args .s) (q .args .limit) (q .args .marks .now) (q .pre .0) (q .pre .1)
@@ -98,19 +74,7 @@ pub mark-causes-spec : {M : Type 1} → statement M
 mark-causes-spec =
     tie.close
     (tie.spec
-    Inv-loop
-    μ-loop
-    mul-base
-    mul-base-2
-    add-base
-    add-merged
-    mul-merged
-    shared-slice-read-merged
-    loop-holds
-    cause-at-requires
-    slice-write-marks
-    add-place
-    loop-less
-    loop-again
-    same-length
-    returns)
+    Inv-loop μ-loop (λ c. omega (arith, ready (c .before .before) .1 .own)) (λ c. omega (arith, ready (c .before .before) .1 .own))
+    (λ c. omega (arith, ready (c .before .before) .1 .own)) (λ c. omega (arith, ready (c .before .before) .1 .own))
+    (λ c. omega (arith, ready (c .before .before) .1 .own)) (λ c. omega (arith, ready (c .before .before .before) .1 .own)) loop-holds
+    cause-at-requires slice-write-marks add-place (λ c. omega arith) loop-again (λ c. c .before .loop .inv .1 .size) returns)

@@ -5,38 +5,17 @@ use borrow.Author.Needs.{needs}
 use Rattle.origin.proofs.mark_one.Statement.{statement}
 use Rattle.origin.proofs.mark_one.Tie as tie
 
-slice-read-if1 : tie.Need-slice-read-if1
-slice-read-if1 c = search needs
-
 returns : tie.Need-returns
 returns c = let s = c .before .before .before .before in
     unmarked-adds (s .args .area .now) (s .args .n) (s .args .count) (s .args .position) (s .args .marks .now) (c .if1 .taken)
-
-mul-reason : tie.Need-mul-reason
-mul-reason c = search needs
-
-add-reason : tie.Need-add-reason
-add-reason c = search needs
-
-mul-reason-2 : tie.Need-mul-reason-2
-mul-reason-2 c = search needs
-
-shared-slice-read-reason : tie.Need-shared-slice-read-reason
-shared-slice-read-reason c = search needs
 
 returns-2 : tie.Need-returns-2
 returns-2 c = let s = c .before .before .before .before .before .before in
     given-adds (s .args .area .now) (s .args .n) (s .args .count) (s .args .position) (s .args .marks .now) (c .if2 .taken)
 
-sub-mark-causes : tie.Need-sub-mark-causes
-sub-mark-causes c = search needs
-
 mark-causes-requires : tie.Need-mark-causes-requires
 mark-causes-requires c κs = let s = c .before .before .before .before .before .before .before in
     (s .pre, omega (arith, s .pre .reasons (s .args .position) (s .pre .position)))
-
-same-length : tie.Need-same-length
-same-length c = search needs
 
 returns-3 : tie.Need-returns-3
 returns-3 c = let s = c .before .before .before .before .before .before .before .before .before .before in let rest = c .before .before .mark-causes in
@@ -47,14 +26,5 @@ pub mark-one-spec : {M : Type 1} → statement M
 mark-one-spec =
     tie.close
     (tie.spec
-    slice-read-if1
-    returns
-    mul-reason
-    add-reason
-    mul-reason-2
-    shared-slice-read-reason
-    returns-2
-    sub-mark-causes
-    mark-causes-requires
-    same-length
-    returns-3)
+    (λ c. search needs) returns (λ c. search needs) (λ c. search needs) (λ c. search needs) (λ c. search needs) returns-2 (λ c. search needs)
+    mark-causes-requires (λ c. search needs) returns-3)

@@ -13,9 +13,6 @@ use borrow.Author.Needs.{needs}
 use Rattle.origin.proofs.origin_within.Statement.{statement}
 use Rattle.origin.proofs.origin_within.Tie as tie
 
-is-whole-requires : tie.Need-is-whole-requires
-is-whole-requires c κs = search needs
-
 returns : tie.Need-returns
 returns c = let s = c .before .before .before .before in
     let w = s .args .area .now in
@@ -26,9 +23,6 @@ returns c = let s = c .before .before .before .before in
 
 stored-origin-requires : tie.Need-stored-origin-requires
 stored-origin-requires c κs = (c .before .before .before .before .before .pre, granted (c .before .before .is-whole .ensures) (c .before .if1 .left))
-
-same-length : tie.Need-same-length
-same-length c = search needs
 
 returns-2 : tie.Need-returns-2
 returns-2 c = let s = c .before .before .before .before .before .before .before in
@@ -43,4 +37,6 @@ returns-2 c = let s = c .before .before .before .before .before .before .before 
 
 pub origin-within-spec : {M : Type 1} → statement M
 origin-within-spec =
-    tie.close (tie.spec is-whole-requires returns stored-origin-requires same-length returns-2)
+    tie.close
+    (tie.spec
+    (λ c κs. search needs) returns stored-origin-requires (λ c. search needs) returns-2)

@@ -36,15 +36,6 @@ below : (c : tie.After-position-of) → ¬ (c .position-of .result ≡ length-of
     → c .position-of .result < length-of (c .before .before .before .before .before .before .before .args .area .now)
 below c d = omega (arith, d, told-position c .few)
 
-shared-slice-read-n : tie.Need-shared-slice-read-n
-shared-slice-read-n c = search needs
-
-shared-slice-read-rows : tie.Need-shared-slice-read-rows
-shared-slice-read-rows c = search needs
-
-size-requires : tie.Need-size-requires
-size-requires c κs = search needs
-
 returns : tie.Need-returns
 returns c = let s = c .before .before .before .before .before in
     listing-zero (s .args .lim) (s .args .area .now) (s .args .literal) (s .args .list .now) (omega (arith, told-size (c .before), c .if1 .taken))
@@ -76,9 +67,6 @@ list-origins-requires c κs = let s = c .before .before .before .before .before 
       position = below (c .before .before) (c .before .if3 .left);
     }
 
-same-length : tie.Need-same-length
-same-length c = search needs
-
 returns-4 : tie.Need-returns-4
 returns-4 c = let s = c .before .before .before .before .before .before .before .before .before .before .before in let x = c .before .before .before .before in
     let rest = c .before .list-origins in
@@ -89,13 +77,5 @@ pub stored-origin-spec : {M : Type 1} → statement M
 stored-origin-spec =
     tie.close
     (tie.spec
-    shared-slice-read-n
-    shared-slice-read-rows
-    size-requires
-    returns
-    returns-2
-    position-of-requires
-    returns-3
-    list-origins-requires
-    same-length
-    returns-4)
+    (λ c. search needs) (λ c. search needs) (λ c κs. search needs) returns returns-2 position-of-requires returns-3 list-origins-requires
+    (λ c. search needs) returns-4)

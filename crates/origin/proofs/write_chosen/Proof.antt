@@ -42,9 +42,6 @@ mul-literal-of-2 c = let p = c .before .before .before .before .before .before .
 shared-slice-read-literal-of : tie.Need-shared-slice-read-literal-of Inv-loop μ-loop
 shared-slice-read-literal-of c = let p = c .before .before .before .before .before .before .before .pre .0 in omega (arith, p .few, p .words)
 
-literal-of-requires : tie.Need-literal-of-requires Inv-loop μ-loop
-literal-of-requires c κs = search needs
-
 -- there is room for one literal more
 room : (c : tie.After-literal-of Inv-loop μ-loop)
     → c .before .before .before .before .before .loop .at + 1 ≤ length (c .before .before .before .before .before .before .before .before .args .list .now)
@@ -56,9 +53,6 @@ room c = let s = c .before .before .before .before .before .before .before .befo
     let told = sym (c .before .before .before .is-chosen .ensures) ∙ c .before .before .if1 .taken in
     omega (arith, s .pre .1, x .inv .1, counted-more w n m (x .i) told, never-fewer w n m (x .i + 1) (s .args .rows) (omega arith))
 
-mul-t16 : tie.Need-mul-t16 Inv-loop μ-loop
-mul-t16 c = omega (arith, room c)
-
 slice-set-from-list : tie.Need-slice-set-from-list Inv-loop μ-loop
 slice-set-from-list c = let s = c .before .before .before .before .before .before .before .before in
     let w = s .args .area .now in
@@ -67,15 +61,6 @@ slice-set-from-list c = let s = c .before .before .before .before .before .befor
     let old = s .args .list .now in
     let x = c .before .before .before .before .before .loop in
     omega (arith, room c, written-length w n m (x .i) old (x .list) (x .inv .2) (omega (arith, room c)))
-
-add-at : tie.Need-add-at Inv-loop μ-loop
-add-at c = omega (arith, room c)
-
-add-i : tie.Need-add-i Inv-loop μ-loop
-add-i c = omega arith
-
-loop-less : tie.Need-loop-less Inv-loop μ-loop
-loop-less c = omega arith
 
 loop-again : tie.Need-loop-again Inv-loop μ-loop
 loop-again c = let s = c .before .before .before .before .before .before in
@@ -123,20 +108,5 @@ pub write-chosen-spec : {M : Type 1} → statement M
 write-chosen-spec =
     tie.close
     (tie.spec
-    Inv-loop
-    μ-loop
-    loop-holds
-    is-chosen-requires
-    mul-literal-of
-    add-literal-of
-    mul-literal-of-2
-    shared-slice-read-literal-of
-    literal-of-requires
-    mul-t16
-    slice-set-from-list
-    add-at
-    add-i
-    loop-less
-    loop-again
-    same-length
-    returns)
+    Inv-loop μ-loop loop-holds is-chosen-requires mul-literal-of add-literal-of mul-literal-of-2 shared-slice-read-literal-of (λ c κs. search needs)
+    (λ c. omega (arith, room c)) slice-set-from-list (λ c. omega (arith, room c)) (λ c. omega arith) (λ c. omega arith) loop-again same-length returns)

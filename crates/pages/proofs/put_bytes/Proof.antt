@@ -22,9 +22,6 @@ returns-2 c = full (omega arith) (omega arith)
 loop-holds : tie.Need-loop-holds Inv-loop μ-loop
 loop-holds c = none-copied (c .before .before .args .text .now) (c .before .before .args .page .now) (c .before .before .args .at)
 
-add-page : tie.Need-add-page Inv-loop μ-loop
-add-page c = omega arith
-
 slice-write-page : tie.Need-slice-write-page Inv-loop μ-loop
 slice-write-page c = let i = c .before .before .loop .inv in
     omega (arith, i .length-same)
@@ -36,9 +33,6 @@ add-result-2 : tie.Need-add-result-2 Inv-loop μ-loop
 add-result-2 c = let i = c .before .loop .inv in
     omega (arith, i .few)
 
-same-length : tie.Need-same-length Inv-loop μ-loop
-same-length c = c .before .loop .inv .length-same
-
 returns-3 : tie.Need-returns-3 Inv-loop μ-loop
 returns-3 c = let i = c .before .loop .inv in all-put (omega arith) (omega (arith, i .few)) i
 
@@ -46,19 +40,5 @@ pub put-bytes-spec : {M : Type 1} → statement M
 put-bytes-spec =
     tie.close
     (tie.spec
-    Inv-loop
-    μ-loop
-    returns
-    (λ c. search needs)
-    (λ c. search needs)
-    returns-2
-    loop-holds
-    (λ c. search needs)
-    add-page
-    slice-write-page
-    (λ c. search needs)
-    (λ c. search needs)
-    loop-again
-    add-result-2
-    same-length
-    returns-3)
+    Inv-loop μ-loop returns (λ c. search needs) (λ c. search needs) returns-2 loop-holds (λ c. search needs) (λ c. omega arith) slice-write-page
+    (λ c. search needs) (λ c. search needs) loop-again add-result-2 (λ c. c .before .loop .inv .length-same) returns-3)

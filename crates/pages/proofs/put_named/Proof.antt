@@ -9,4 +9,6 @@ returns : tie.Need-returns
 returns c = search (then, signed-put)
 
 pub put-named-spec : {M : Type 1} → statement M
-put-named-spec = tie.close (tie.spec (λ c κs. search needs) (λ c κs. search needs) (λ c. search needs) returns)
+put-named-spec = tie.close
+    (tie.spec
+    (λ c κs. search needs) (λ c κs. search needs) (λ c. search needs) returns)

@@ -33,11 +33,4 @@ pub propagate-whole-spec : {M : Type 1} → statement M
 propagate-whole-spec =
     tie.close
     (tie.spec
-    (λ c. search needs)
-    (λ c. search needs)
-    run-requires
-    sub-put
-    (λ c. search needs)
-    returns
-    (λ c. search needs)
-    returns-2)
+    (λ c. search needs) (λ c. search needs) run-requires sub-put (λ c. search needs) returns (λ c. search needs) returns-2)

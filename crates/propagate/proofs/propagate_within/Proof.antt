@@ -22,9 +22,4 @@ pub propagate-within-spec : {M : Type 1} → statement M
 propagate-within-spec =
     tie.close
     (tie.spec
-    (λ c κs. search needs)
-    (λ c. search needs)
-    returns
-    propagate-whole-requires
-    (λ c. search needs)
-    returns-2)
+    (λ c κs. search needs) (λ c. search needs) returns propagate-whole-requires (λ c. search needs) returns-2)

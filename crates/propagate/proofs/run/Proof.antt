@@ -26,22 +26,13 @@ find-requires : tie.Need-find-requires Inv-loop μ-loop
 find-requires c κs = let s = c .before .before .before in
     record { lim = s .pre .0; len = c .before .loop .length; level = s .args .level; searchable = c .before .loop .inv .1 (s .pre .0) (s .pre .1) .searchable }
 
-enum-told : tie.Need-enum-told Inv-loop μ-loop
-enum-told c = search needs
-
 settle-requires : tie.Need-settle-requires Inv-loop μ-loop
 settle-requires c κs = let s = c .before .before .before .before .before .before .before in
     settleable (c .before .before .before .before .before .loop .inv .1 (s .pre .0) (s .pre .1))
 
-same-length : tie.Need-same-length Inv-loop μ-loop
-same-length c = search needs
-
 returns : tie.Need-returns Inv-loop μ-loop
 returns c = λ lim a.
     reached-still (c .before .before .before .before .before .before .before .before .loop .inv .1 lim a) (found-here (c .before .before .before .before .before .before .find .ensures) (c .before .before .before .before .enum-told .given .1)) (c .before .before .settle .last .0) (c .before .before .settle .ensures)
-
-enum-known-found : tie.Need-enum-known-found Inv-loop μ-loop
-enum-known-found c = search needs
 
 add-t19 : tie.Need-add-t19 Inv-loop μ-loop
 add-t19 c = let s = c .before .before .before .before .before .before .before in
@@ -49,15 +40,9 @@ add-t19 c = let s = c .before .before .before .before .before .before .before in
     let f = found-here (c .before .before .before .find .ensures) (c .before .found .given .1) in
     omega (arith, settleable r .sentences, f .conflict-inside (c .before .found .given .0 .0) refl)
 
-same-length-2 : tie.Need-same-length-2 Inv-loop μ-loop
-same-length-2 c = search needs
-
 returns-2 : tie.Need-returns-2 Inv-loop μ-loop
 returns-2 c = λ lim a.
     reached-conflict (c .before .before .before .before .before .loop .inv .1 lim a) (c .before .found .given .0 .0) (found-here (c .before .before .before .find .ensures) (c .before .found .given .1))
-
-enum-known-found-2 : tie.Need-enum-known-found-2 Inv-loop μ-loop
-enum-known-found-2 c = search needs
 
 -- what is found forced
 forced : (c : tie.After-known-told2 Inv-loop μ-loop) → FoundIs (c .before .before .before .before .before .loop .area) (c .before .before .before .before .before .before .before .args .n) (c .before .before .before .before .before .before .before .args .count) (Forced (c .before .found2 .given .0 .0) (c .before .found2 .given .0 .1 .0) (c .before .found2 .given .0 .1 .1 .0))
@@ -115,25 +100,6 @@ pub run-spec : {M : Type 1} → statement M
 run-spec =
     tie.close
     (tie.spec
-    Inv-loop
-    μ-loop
-    loop-holds
-    find-requires
-    enum-told
-    settle-requires
-    same-length
-    returns
-    enum-known-found
-    add-t19
-    same-length-2
-    returns-2
-    enum-known-found-2
-    add-mark
-    mul-mark
-    add-mark-2
-    mul-mark-2
-    add-mark-3
-    advance-requires
-    add-length
-    loop-less
+    Inv-loop μ-loop loop-holds find-requires (λ c. search needs) settle-requires (λ c. search needs) returns (λ c. search needs) add-t19
+    (λ c. search needs) returns-2 (λ c. search needs) add-mark mul-mark add-mark-2 mul-mark-2 add-mark-3 advance-requires add-length loop-less
     loop-again)

@@ -16,31 +16,13 @@ loop-holds : tie.Need-loop-holds Inv-loop μ-loop
 loop-holds c = let s = c .before .before in
     (omega arith, none-passed (s .args .area .now) (s .args .n) (s .args .count) (s .args .touched .now))
 
-mul-refresh-one : tie.Need-mul-refresh-one Inv-loop μ-loop
-mul-refresh-one c = search needs
-
-mul-refresh-one-2 : tie.Need-mul-refresh-one-2 Inv-loop μ-loop
-mul-refresh-one-2 c = search needs
-
-add-refresh-one : tie.Need-add-refresh-one Inv-loop μ-loop
-add-refresh-one c = search needs
-
 refresh-one-requires : tie.Need-refresh-one-requires Inv-loop μ-loop
 refresh-one-requires c κs = let s = c .before .before .before .before .before in
     (s .pre .0, next-touchable (s .pre .0) (s .args .area .now) (c .before .before .loop .area) (s .args .n) (s .args .count) (s .args .touched .now) (c .before .before .loop .s) (s .pre .1) (c .before .before .loop .inv .1) (c .before .loop-test .taken))
 
-add-s : tie.Need-add-s Inv-loop μ-loop
-add-s c = search needs
-
-loop-less : tie.Need-loop-less Inv-loop μ-loop
-loop-less c = search needs
-
 loop-again : tie.Need-loop-again Inv-loop μ-loop
 loop-again c = let s = c .before .before .before .before .before .before .before .before in
     (omega arith, one-passed (s .pre .0) (s .args .area .now) (c .before .before .before .before .before .loop .area) (s .args .n) (s .args .count) (s .args .touched .now) (c .before .before .before .before .before .loop .s) (s .pre .1) (c .before .before .before .before .before .loop .inv .1) (c .before .before .before .before .loop-test .taken) _ (c .before .before .refresh-one .ensures))
-
-same-length : tie.Need-same-length Inv-loop μ-loop
-same-length c = search needs
 
 returns : tie.Need-returns Inv-loop μ-loop
 returns c = let s = c .before .before .before .before in
@@ -50,15 +32,5 @@ pub refresh-spec : {M : Type 1} → statement M
 refresh-spec =
     tie.close
     (tie.spec
-    Inv-loop
-    μ-loop
-    loop-holds
-    mul-refresh-one
-    mul-refresh-one-2
-    add-refresh-one
-    refresh-one-requires
-    add-s
-    loop-less
-    loop-again
-    same-length
-    returns)
+    Inv-loop μ-loop loop-holds (λ c. search needs) (λ c. search needs) (λ c. search needs) refresh-one-requires (λ c. search needs)
+    (λ c. search needs) loop-again (λ c. search needs) returns)

@@ -16,68 +16,8 @@ Inv-loop area n count base touched head start merged i₀ i = (i ≤ merged) × 
 abbrev μ-loop : tie.MeasureT-loop
 μ-loop area n count base touched head start merged i₀ i = merged - i
 
-mul-head : tie.Need-mul-head Inv-loop μ-loop
-mul-head c = search needs
-
-shared-slice-read-head : tie.Need-shared-slice-read-head Inv-loop μ-loop
-shared-slice-read-head c = search needs
-
-shared-slice-read-if1 : tie.Need-shared-slice-read-if1 Inv-loop μ-loop
-shared-slice-read-if1 c = search needs
-
 returns : tie.Need-returns Inv-loop μ-loop
 returns c = told-no (λ u. c .if1 .taken (u .0))
-
-mul-start : tie.Need-mul-start Inv-loop μ-loop
-mul-start c = search needs
-
-mul-start-2 : tie.Need-mul-start-2 Inv-loop μ-loop
-mul-start-2 c = search needs
-
-add-start : tie.Need-add-start Inv-loop μ-loop
-add-start c = search needs
-
-add-start-2 : tie.Need-add-start-2 Inv-loop μ-loop
-add-start-2 c = search needs
-
-mul-start-3 : tie.Need-mul-start-3 Inv-loop μ-loop
-mul-start-3 c = search needs
-
-shared-slice-read-start : tie.Need-shared-slice-read-start Inv-loop μ-loop
-shared-slice-read-start c = search needs
-
-mul-start-4 : tie.Need-mul-start-4 Inv-loop μ-loop
-mul-start-4 c = search needs
-
-add-start-3 : tie.Need-add-start-3 Inv-loop μ-loop
-add-start-3 c = search needs
-
-add-merged : tie.Need-add-merged Inv-loop μ-loop
-add-merged c = search needs
-
-mul-merged : tie.Need-mul-merged Inv-loop μ-loop
-mul-merged c = search needs
-
-shared-slice-read-merged : tie.Need-shared-slice-read-merged Inv-loop μ-loop
-shared-slice-read-merged c = search needs
-
-loop-holds : tie.Need-loop-holds Inv-loop μ-loop
-loop-holds c = search needs
-
-mul-a : tie.Need-mul-a Inv-loop μ-loop
-mul-a c = search needs
-
-add-a : tie.Need-add-a Inv-loop μ-loop
-add-a c = search needs
-
-add-a-2 : tie.Need-add-a-2 Inv-loop μ-loop
-add-a-2 c = search needs
-
-mul-a-2 : tie.Need-mul-a-2 Inv-loop μ-loop
-mul-a-2 c = search needs
-
-shared-slice-read-a : tie.Need-shared-slice-read-a Inv-loop μ-loop
-shared-slice-read-a c = search needs
 
 shared-slice-read-if2 : tie.Need-shared-slice-read-if2 Inv-loop μ-loop
 shared-slice-read-if2 c = let s = c .before .before .before .before .before .before .before .before .before in
@@ -86,12 +26,6 @@ shared-slice-read-if2 c = let s = c .before .before .before .before .before .bef
 returns-2 : tie.Need-returns-2 Inv-loop μ-loop
 returns-2 c = let s = c .before .before .before .before .before .before .before .before .before .before in
     told-no (λ u. c .if2 .taken (entry-untouched (s .args .area .now) (s .args .n) (s .args .count) (s .args .base) (s .args .touched .now) (s .pre) u (c .before .before .before .before .loop .i) (c .before .before .before .loop-test .taken)))
-
-add-i : tie.Need-add-i Inv-loop μ-loop
-add-i c = search needs
-
-loop-less : tie.Need-loop-less Inv-loop μ-loop
-loop-less c = search needs
 
 loop-again : tie.Need-loop-again Inv-loop μ-loop
 loop-again c = (omega arith, below-more _ _ (c .before .before .before .before .loop .inv .1) (c .if2 .left))
@@ -104,32 +38,7 @@ pub touches-spec : {M : Type 1} → statement M
 touches-spec =
     tie.close
     (tie.spec
-    Inv-loop
-    μ-loop
-    mul-head
-    shared-slice-read-head
-    shared-slice-read-if1
-    returns
-    mul-start
-    mul-start-2
-    add-start
-    add-start-2
-    mul-start-3
-    shared-slice-read-start
-    mul-start-4
-    add-start-3
-    add-merged
-    mul-merged
-    shared-slice-read-merged
-    loop-holds
-    mul-a
-    add-a
-    add-a-2
-    mul-a-2
-    shared-slice-read-a
-    shared-slice-read-if2
-    returns-2
-    add-i
-    loop-less
-    loop-again
-    returns-3)
+    Inv-loop μ-loop (λ c. search needs) (λ c. search needs) (λ c. search needs) returns (λ c. search needs) (λ c. search needs) (λ c. search needs)
+    (λ c. search needs) (λ c. search needs) (λ c. search needs) (λ c. search needs) (λ c. search needs) (λ c. search needs) (λ c. search needs)
+    (λ c. search needs) (λ c. search needs) (λ c. search needs) (λ c. search needs) (λ c. search needs) (λ c. search needs) (λ c. search needs)
+    shared-slice-read-if2 returns-2 (λ c. search needs) (λ c. search needs) loop-again returns-3)

@@ -7,12 +7,6 @@ use Rattle.calls.proofs.Acting.{answered-nine, answered-whole}
 use Rattle.reports.proofs.bounds_within.Statement.{statement}
 use Rattle.reports.proofs.bounds_within.Tie as tie
 
-is-whole-requires : tie.Need-is-whole-requires
-is-whole-requires c κs = search needs
-
-refusal-requires : tie.Need-refusal-requires
-refusal-requires c κs = search needs
-
 returns : tie.Need-returns
 returns c = let s = c .before .before .before .before .before in
     answered-nine (s .args .lim) (s .args .area .now) (counted (s .args .counters)) (bounds (s .args .sentence .0)) (bounds-paper (c .refusal .result)) (denied (c .before .before .is-whole .ensures) (c .before .if1 .taken)) (c .refusal .ensures)
@@ -27,4 +21,5 @@ returns-2 c = let s = c .before .before .before .before .before in
 pub bounds-within-spec : {M : Type 1} → statement M
 bounds-within-spec =
     tie.close
-    (tie.spec is-whole-requires refusal-requires returns stored-bounds-requires returns-2)
+    (tie.spec
+    (λ c κs. search needs) (λ c κs. search needs) returns stored-bounds-requires returns-2)

@@ -4,9 +4,6 @@ use Rattle.reports.proofs.Signs.{literal-true, literal-safe, literal-fa
 use Rattle.reports.proofs.literal_of.Statement.{statement}
 use Rattle.reports.proofs.literal_of.Tie as tie
 
-cast-atom : tie.Need-cast-atom
-cast-atom c = search needs
-
 returns : tie.Need-returns
 returns c = literal-true (c .before .args .x) (c .before .fits .x) (c .if1 .taken)
 
@@ -17,4 +14,6 @@ returns-2 : tie.Need-returns-2
 returns-2 c = literal-false (c .before .args .x) (c .before .fits .x) (c .if1 .left)
 
 pub literal-of-spec : {M : Type 1} → statement M
-literal-of-spec = tie.close (tie.spec cast-atom returns sub-result returns-2)
+literal-of-spec = tie.close
+    (tie.spec
+    (λ c. search needs) returns sub-result returns-2)

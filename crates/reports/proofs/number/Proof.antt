@@ -4,9 +4,6 @@ use Rattle.reports.proofs.Signs.{number-safe, number-is}
 use Rattle.reports.proofs.number.Statement.{statement}
 use Rattle.reports.proofs.number.Tie as tie
 
-cast-result : tie.Need-cast-result
-cast-result c = search needs
-
 sub-result : tie.Need-sub-result
 sub-result c = number-safe (c .args .x) (c .pre)
 
@@ -14,4 +11,6 @@ returns : tie.Need-returns
 returns c = number-is (c .args .x) (c .pre)
 
 pub number-spec : {M : Type 1} → statement M
-number-spec = tie.close (tie.spec cast-result sub-result returns)
+number-spec = tie.close
+    (tie.spec
+    (λ c. search needs) sub-result returns)

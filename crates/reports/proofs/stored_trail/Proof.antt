@@ -7,15 +7,6 @@ use Rattle.reports.proofs.Answers.{left-short, rows-listed}
 use Rattle.reports.proofs.stored_trail.Statement.{statement}
 use Rattle.reports.proofs.stored_trail.Tie as tie
 
-shared-slice-read-n : tie.Need-shared-slice-read-n
-shared-slice-read-n c = search needs
-
-shared-slice-read-rows : tie.Need-shared-slice-read-rows
-shared-slice-read-rows c = search needs
-
-mul-needed : tie.Need-mul-needed
-mul-needed c = search needs
-
 returns : tie.Need-returns
 returns c = let s = c .before .before .before .before in
     left-short (s .args .lim) (s .args .area .now) (s .args .list .now) (c .if1 .taken)
@@ -23,9 +14,6 @@ returns c = let s = c .before .before .before .before in
 write-rows-requires : tie.Need-write-rows-requires
 write-rows-requires c κs = let s = c .before .before .before .before .before in
     (few-places (s .args .area .now) (atoms-of (s .args .area .now)) (length-of (s .args .area .now)) (s .pre .trail-right .atoms), omega arith, omega arith)
-
-same-length : tie.Need-same-length
-same-length c = search needs
 
 returns-2 : tie.Need-returns-2
 returns-2 c = let s = c .before .before .before .before .before .before .before in
@@ -35,10 +23,4 @@ pub stored-trail-spec : {M : Type 1} → statement M
 stored-trail-spec =
     tie.close
     (tie.spec
-    shared-slice-read-n
-    shared-slice-read-rows
-    mul-needed
-    returns
-    write-rows-requires
-    same-length
-    returns-2)
+    (λ c. search needs) (λ c. search needs) (λ c. search needs) returns write-rows-requires (λ c. search needs) returns-2)

@@ -10,11 +10,10 @@ returns c = value-below (c .before .args .x) (c .if1 .taken)
 returns-2 : tie.Need-returns-2
 returns-2 c = value-above (c .before .before .args .x) (c .if2 .taken)
 
-number-requires : tie.Need-number-requires
-number-requires c κs = search needs
-
 returns-3 : tie.Need-returns-3
 returns-3 c = value-at (c .before .before .before .args .x) (c .before .before .if1 .left) (c .before .if2 .left) (c .number .result) (c .number .ensures)
 
 pub value-of-spec : {M : Type 1} → statement M
-value-of-spec = tie.close (tie.spec returns returns-2 number-requires returns-3)
+value-of-spec = tie.close
+    (tie.spec
+    returns returns-2 (λ c κs. search needs) returns-3)

@@ -19,45 +19,9 @@ abbrev μ-loop : tie.MeasureT-loop
 loop-holds : tie.Need-loop-holds Inv-loop μ-loop
 loop-holds c = (omega arith, none-written (c .before .args .area .now) (c .before .args .n) (c .before .args .list .now))
 
-mul-literal-of : tie.Need-mul-literal-of Inv-loop μ-loop
-mul-literal-of c = search needs
-
-add-literal-of : tie.Need-add-literal-of Inv-loop μ-loop
-add-literal-of c = search needs
-
-mul-literal-of-2 : tie.Need-mul-literal-of-2 Inv-loop μ-loop
-mul-literal-of-2 c = search needs
-
-shared-slice-read-literal-of : tie.Need-shared-slice-read-literal-of Inv-loop μ-loop
-shared-slice-read-literal-of c = search needs
-
-literal-of-requires : tie.Need-literal-of-requires Inv-loop μ-loop
-literal-of-requires c κs = search needs
-
-mul-mark : tie.Need-mul-mark Inv-loop μ-loop
-mul-mark c = search needs
-
-add-mark : tie.Need-add-mark Inv-loop μ-loop
-add-mark c = search needs
-
-mul-mark-2 : tie.Need-mul-mark-2 Inv-loop μ-loop
-mul-mark-2 c = search needs
-
-shared-slice-read-mark : tie.Need-shared-slice-read-mark Inv-loop μ-loop
-shared-slice-read-mark c = search needs
-
-mul-write-row : tie.Need-mul-write-row Inv-loop μ-loop
-mul-write-row c = search needs
-
 write-row-requires : tie.Need-write-row-requires Inv-loop μ-loop
 write-row-requires c κs = let s = c .before .before .before .before .before .before .before in let p = c .before .before .before .before .before in
     (omega (arith, c .before .before .before .before .loop-test .taken, p .loop .inv .0, s .pre .2, written-length (s .args .area .now) (s .args .n) (p .loop .i) (s .args .list .now) (p .loop .list) (omega arith) (p .loop .inv .1)), omega arith, omega arith)
-
-add-i : tie.Need-add-i Inv-loop μ-loop
-add-i c = search needs
-
-loop-less : tie.Need-loop-less Inv-loop μ-loop
-loop-less c = search needs
 
 loop-again : tie.Need-loop-again Inv-loop μ-loop
 loop-again c = let s = c .before .before .before .before .before .before .before .before .before in let p = c .before .before .before .before .before .before .before in
@@ -75,22 +39,6 @@ pub write-rows-spec : {M : Type 1} → statement M
 write-rows-spec =
     tie.close
     (tie.spec
-    Inv-loop
-    μ-loop
-    loop-holds
-    mul-literal-of
-    add-literal-of
-    mul-literal-of-2
-    shared-slice-read-literal-of
-    literal-of-requires
-    mul-mark
-    add-mark
-    mul-mark-2
-    shared-slice-read-mark
-    mul-write-row
-    write-row-requires
-    add-i
-    loop-less
-    loop-again
-    same-length
-    returns)
+    Inv-loop μ-loop loop-holds (λ c. search needs) (λ c. search needs) (λ c. search needs) (λ c. search needs) (λ c κs. search needs)
+    (λ c. search needs) (λ c. search needs) (λ c. search needs) (λ c. search needs) (λ c. search needs) write-row-requires (λ c. search needs)
+    (λ c. search needs) loop-again same-length returns)

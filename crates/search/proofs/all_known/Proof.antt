@@ -27,9 +27,6 @@ known : (c : tie.After-size Inv-loop μ-loop) → c .size .result ≡ atom (nth 
 known c = let l = nth (c .before .before .before .before .args .literals .now) (c .before .before .before .loop .k) in
     c .size .ensures ∙ ap {A = ℤ} atom (toZ-ofZ w64 l (record { sfits = c .before .size-arg .given }))
 
-loop-holds : tie.Need-loop-holds Inv-loop μ-loop
-loop-holds c = refl
-
 returns : tie.Need-returns Inv-loop μ-loop
 returns c = let s = c .before .before .before .before .before in
     let ls = s .args .literals .now in
@@ -66,15 +63,5 @@ pub all-known-spec : {M : Type 1} → statement M
 all-known-spec =
     tie.close
     (tie.spec
-    Inv-loop
-    μ-loop
-    loop-holds
-    (λ c. search needs)
-    (λ c. search needs)
-    (λ c κs. search needs)
-    returns
-    returns-2
-    (λ c. search needs)
-    (λ c. search needs)
-    loop-again
-    returns-3)
+    Inv-loop μ-loop (λ c. refl) (λ c. search needs) (λ c. search needs) (λ c κs. search needs) returns returns-2 (λ c. search needs)
+    (λ c. search needs) loop-again returns-3)

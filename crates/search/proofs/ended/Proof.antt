@@ -29,11 +29,4 @@ pub ended-spec : {M : Type 1} → statement M
 ended-spec =
     tie.close
     (tie.spec
-    (λ c. search needs)
-    (λ c. search needs)
-    add-still
-    (λ c. search needs)
-    add-conflict
-    returns
-    returns-2
-    returns-3)
+    (λ c. search needs) (λ c. search needs) add-still (λ c. search needs) add-conflict returns returns-2 returns-3)

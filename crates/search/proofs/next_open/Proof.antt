@@ -101,19 +101,5 @@ pub next-open-spec : {M : Type 1} → statement M
 next-open-spec =
     tie.close
     (tie.spec
-    Inv-loop
-    μ-loop
-    shared-slice-read-n
-    loop-holds
-    (λ c. search needs)
-    (λ c. search needs)
-    (λ c κs. search needs)
-    sub-if1
-    add-if1
-    mul-if1
-    shared-slice-read-if1
-    returns
-    (λ c. search needs)
-    (λ c. search needs)
-    loop-again
-    returns-2)
+    Inv-loop μ-loop shared-slice-read-n loop-holds (λ c. search needs) (λ c. search needs) (λ c κs. search needs) sub-if1 add-if1 mul-if1
+    shared-slice-read-if1 returns (λ c. search needs) (λ c. search needs) loop-again returns-2)

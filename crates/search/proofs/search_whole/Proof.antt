@@ -72,18 +72,12 @@ loop-holds c = let s = c .before in (omega arith, refl, reached-first (s .args .
 propagate-whole-requires : tie.Need-propagate-whole-requires Inv-loop μ-loop
 propagate-whole-requires c κs = let s = c .before .before .before in (s .args .lim, record { fitting = s .pre .usable .fitting; whole = c .before .loop .inv .2 .moved .whole })
 
-enum-known-answer : tie.Need-enum-known-answer Inv-loop μ-loop
-enum-known-answer c = search needs
-
 ended-requires : tie.Need-ended-requires Inv-loop μ-loop
 ended-requires c κs = let s = c .before .before .before .before .before .before .before in
     let l = c .before .before .before .before .before .loop in
     let p = c .before .before .before .propagate-whole in
     let acts = p .ensures .0 (s .args .lim) (record { fitting = s .pre .usable .fitting; whole = l .inv .2 .moved .whole }) in
     omega (arith, after-small (s .args .lim) (l .area) (l .i) (drop (l .i) (s .args .literals .now)) (l .inv .2) (p .last .0) (p .result) acts (s .pre .usable .fitting))
-
-same-length : tie.Need-same-length Inv-loop μ-loop
-same-length c = search needs
 
 returns : tie.Need-returns Inv-loop μ-loop
 returns c = let s = c .before .before .before .before .before .before .before .before in
@@ -109,9 +103,6 @@ next-open-requires c κs = let s = c .before .before .before .before .before .be
       searchable = record { usable = record { fitting = s .pre .usable .fitting; whole = stopped (c .before) .moved .whole }; known = known (c .before) };
       inside = c .before .before .before .before .before .before .before .before .loop .inv .0;
     }
-
-same-length-2 : tie.Need-same-length-2 Inv-loop μ-loop
-same-length-2 c = search needs
 
 returns-2 : tie.Need-returns-2 Inv-loop μ-loop
 returns-2 c = let s = c .before .before .before .before .before .before .before .before .before .before .before .before .before in
@@ -172,25 +163,6 @@ pub search-whole-spec : {M : Type 1} → statement M
 search-whole-spec =
     tie.close
     (tie.spec
-    Inv-loop
-    μ-loop
-    loop-holds
-    propagate-whole-requires
-    enum-known-answer
-    ended-requires
-    same-length
-    returns
-    add-total
-    next-open-requires
-    (λ c κs. search needs)
-    same-length-2
-    returns-2
-    mul-try-literal
-    shared-slice-copy-out-try-literal
-    try-literal-requires
-    (λ c κs. search needs)
-    same-length-3
-    returns-3
-    add-i
-    loop-less
-    loop-again)
+    Inv-loop μ-loop loop-holds propagate-whole-requires (λ c. search needs) ended-requires (λ c. search needs) returns add-total next-open-requires
+    (λ c κs. search needs) (λ c. search needs) returns-2 mul-try-literal shared-slice-copy-out-try-literal try-literal-requires (λ c κs. search needs)
+    same-length-3 returns-3 add-i loop-less loop-again)

@@ -50,15 +50,5 @@ pub search-within-spec : {M : Type 1} → statement M
 search-within-spec =
     tie.close
     (tie.spec
-    (λ c κs. search needs)
-    (λ c κs. search needs)
-    (λ c. search needs)
-    returns
-    slice-read-n
-    (λ c κs. search needs)
-    (λ c κs. search needs)
-    (λ c. search needs)
-    returns-2
-    search-whole-requires
-    (λ c. search needs)
-    returns-3)
+    (λ c κs. search needs) (λ c κs. search needs) (λ c. search needs) returns slice-read-n (λ c κs. search needs) (λ c κs. search needs)
+    (λ c. search needs) returns-2 search-whole-requires (λ c. search needs) returns-3)

@@ -37,9 +37,4 @@ pub try-literal-spec : {M : Type 1} → statement M
 try-literal-spec =
     tie.close
     (tie.spec
-    (λ c κs. search needs)
-    (λ c. search needs)
-    returns
-    give-whole-requires
-    (λ c. search needs)
-    returns-2)
+    (λ c κs. search needs) (λ c. search needs) returns give-whole-requires (λ c. search needs) returns-2)

@@ -13,4 +13,6 @@ returns-2 : tie.Need-returns-2
 returns-2 c = rw (ne-eqb _ _ (c .if1 .left))
 
 pub entry-turns-spec : {M : Type 1} → statement M
-entry-turns-spec = tie.close (tie.spec turn-requires returns returns-2)
+entry-turns-spec = tie.close
+    (tie.spec
+    turn-requires returns returns-2)

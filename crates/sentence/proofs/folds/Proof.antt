@@ -20,9 +20,6 @@ Inv-loop area kind first start count n none least₀ greatest₀ i₀ least grea
 abbrev μ-loop : tie.MeasureT-loop
 μ-loop area kind first start count n none least₀ greatest₀ i₀ least greatest i = count - i
 
-empty-requires : tie.Need-empty-requires Inv-loop μ-loop
-empty-requires c κs = search needs
-
 loop-holds : tie.Need-loop-holds Inv-loop μ-loop
 loop-holds c =
     let a = c .before .before .args in
@@ -34,30 +31,6 @@ loop-holds c =
       c .empty .ensures,
     )
 
-mul-at : tie.Need-mul-at Inv-loop μ-loop
-mul-at c = search needs
-
-add-at : tie.Need-add-at Inv-loop μ-loop
-add-at c = search needs
-
-mul-w : tie.Need-mul-w Inv-loop μ-loop
-mul-w c = search needs
-
-shared-slice-read-w : tie.Need-shared-slice-read-w Inv-loop μ-loop
-shared-slice-read-w c = search needs
-
-add-l : tie.Need-add-l Inv-loop μ-loop
-add-l c = search needs
-
-mul-l : tie.Need-mul-l Inv-loop μ-loop
-mul-l c = search needs
-
-shared-slice-read-l : tie.Need-shared-slice-read-l Inv-loop μ-loop
-shared-slice-read-l c = search needs
-
-sub-v : tie.Need-sub-v Inv-loop μ-loop
-sub-v c = search needs
-
 add-v : tie.Need-add-v Inv-loop μ-loop
 add-v c = omega (arith, c .before .before .before .before .before .before .pre .0 .atom-high (c .before .before .before .loop .i) (c .before .before .loop-test .taken))
 
@@ -66,9 +39,6 @@ mul-v c = omega (arith, c .before .before .before .before .before .before .pre .
 
 shared-slice-read-v : tie.Need-shared-slice-read-v Inv-loop μ-loop
 shared-slice-read-v c = omega (arith, c .before .before .before .before .before .before .before .pre .0 .literal (c .before .before .before .before .loop .i) (c .before .before .before .loop-test .taken), c .before .before .before .before .before .before .before .pre .0 .atom-high (c .before .before .before .before .loop .i) (c .before .before .before .loop-test .taken))
-
-reaches-requires : tie.Need-reaches-requires Inv-loop μ-loop
-reaches-requires c κs = search needs
 
 step-requires : tie.Need-step-requires Inv-loop μ-loop
 step-requires c κs =
@@ -84,12 +54,6 @@ step-requires c κs =
       rw x (folding-steps (a .kind) false v area (a .start) (a .count) (c .before .before .before .before .before .loop .least) (folded (a .kind) (a .first) (contributions (a .kind) false v (entry-words area (a .start) (a .count)))) i h g (j .1)),
       rw y (folding-steps (a .kind) true v area (a .start) (a .count) (c .before .before .before .before .before .loop .greatest) (folded (a .kind) (a .first) (contributions (a .kind) true v (entry-words area (a .start) (a .count)))) i h g (j .2)),
     )
-
-add-i : tie.Need-add-i Inv-loop μ-loop
-add-i c = search needs
-
-loop-less : tie.Need-loop-less Inv-loop μ-loop
-loop-less c = search needs
 
 loop-again : tie.Need-loop-again Inv-loop μ-loop
 loop-again c =
@@ -125,24 +89,6 @@ pub folds-spec : {M : Type 1} → statement M
 folds-spec =
     tie.close
     (tie.spec
-    Inv-loop
-    μ-loop
-    empty-requires
-    loop-holds
-    mul-at
-    add-at
-    mul-w
-    shared-slice-read-w
-    add-l
-    mul-l
-    shared-slice-read-l
-    sub-v
-    add-v
-    mul-v
-    shared-slice-read-v
-    reaches-requires
-    step-requires
-    add-i
-    loop-less
-    loop-again
-    returns)
+    Inv-loop μ-loop (λ c κs. search needs) loop-holds (λ c. search needs) (λ c. search needs) (λ c. search needs) (λ c. search needs)
+    (λ c. search needs) (λ c. search needs) (λ c. search needs) (λ c. search needs) add-v mul-v shared-slice-read-v (λ c κs. search needs)
+    step-requires (λ c. search needs) (λ c. search needs) loop-again returns)

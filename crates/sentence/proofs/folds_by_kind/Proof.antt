@@ -7,17 +7,11 @@ use Rattle.sentence.specs.Room.{Rooms}
 use Rattle.sentence.proofs.folds_by_kind.Statement.{statement}
 use Rattle.sentence.proofs.folds_by_kind.Tie as tie
 
-enum-told : tie.Need-enum-told
-enum-told c = search needs
-
 folds-requires : tie.Need-folds-requires
 folds-requires c κs =
     let a = c .before .before .before .args in
     let w = a .area .now in
     (c .before .before .before .pre .0, subst (λ (k : Kind). Rooms k (a .first) (value-at w (a .n)) (entry-words w (a .start) (a .count))) (c .enum-told .given .1) (c .before .before .before .pre .1))
-
-enum-told-2 : tie.Need-enum-told-2
-enum-told-2 c = search needs
 
 folds-requires-2 : tie.Need-folds-requires-2
 folds-requires-2 c κs =
@@ -25,26 +19,17 @@ folds-requires-2 c κs =
     let w = a .area .now in
     (c .before .before .before .pre .0, subst (λ (k : Kind). Rooms k (a .first) (value-at w (a .n)) (entry-words w (a .start) (a .count))) (c .enum-told2 .given .1) (c .before .before .before .pre .1))
 
-enum-told-3 : tie.Need-enum-told-3
-enum-told-3 c = search needs
-
 folds-requires-3 : tie.Need-folds-requires-3
 folds-requires-3 c κs =
     let a = c .before .before .before .args in
     let w = a .area .now in
     (c .before .before .before .pre .0, subst (λ (k : Kind). Rooms k (a .first) (value-at w (a .n)) (entry-words w (a .start) (a .count))) (c .enum-told3 .given .1) (c .before .before .before .pre .1))
 
-enum-told-4 : tie.Need-enum-told-4
-enum-told-4 c = search needs
-
 folds-requires-4 : tie.Need-folds-requires-4
 folds-requires-4 c κs =
     let a = c .before .before .before .args in
     let w = a .area .now in
     (c .before .before .before .pre .0, subst (λ (k : Kind). Rooms k (a .first) (value-at w (a .n)) (entry-words w (a .start) (a .count))) (c .enum-told4 .given .1) (c .before .before .before .pre .1))
-
-enum-told-5 : tie.Need-enum-told-5
-enum-told-5 c = search needs
 
 folds-requires-5 : tie.Need-folds-requires-5
 folds-requires-5 c κs =
@@ -71,18 +56,5 @@ pub folds-by-kind-spec : {M : Type 1} → statement M
 folds-by-kind-spec =
     tie.close
     (tie.spec
-    enum-told
-    folds-requires
-    enum-told-2
-    folds-requires-2
-    enum-told-3
-    folds-requires-3
-    enum-told-4
-    folds-requires-4
-    enum-told-5
-    folds-requires-5
-    returns
-    returns-2
-    returns-3
-    returns-4
-    returns-5)
+    (λ c. search needs) folds-requires (λ c. search needs) folds-requires-2 (λ c. search needs) folds-requires-3 (λ c. search needs) folds-requires-4
+    (λ c. search needs) folds-requires-5 returns returns-2 returns-3 returns-4 returns-5)

@@ -15,53 +15,8 @@ use Rattle.sentence.proofs.Unscanned.{known-open, known-fixed}
 use Rattle.sentence.proofs.look.Statement.{statement}
 use Rattle.sentence.proofs.look.Tie as tie
 
-mul-head : tie.Need-mul-head
-mul-head c = search needs
-
-shared-slice-read-head : tie.Need-shared-slice-read-head
-shared-slice-read-head c = search needs
-
-add-tag : tie.Need-add-tag
-add-tag c = search needs
-
-mul-tag : tie.Need-mul-tag
-mul-tag c = search needs
-
-shared-slice-read-tag : tie.Need-shared-slice-read-tag
-shared-slice-read-tag c = search needs
-
-add-bound : tie.Need-add-bound
-add-bound c = search needs
-
-mul-bound : tie.Need-mul-bound
-mul-bound c = search needs
-
-shared-slice-read-bound : tie.Need-shared-slice-read-bound
-shared-slice-read-bound c = search needs
-
 add-limit : tie.Need-add-limit
 add-limit c = omega (arith, bound-high (c .before .before .before .before .before .args .area .now) (c .before .before .before .before .before .args .n) (c .before .before .before .before .before .args .count) (c .before .before .before .before .before .args .base) (c .before .before .before .before .before .pre .0))
-
-sub-v : tie.Need-sub-v
-sub-v c = search needs
-
-add-v : tie.Need-add-v
-add-v c = search needs
-
-mul-v : tie.Need-mul-v
-mul-v c = search needs
-
-shared-slice-read-v : tie.Need-shared-slice-read-v
-shared-slice-read-v c = search needs
-
-keep-requires : tie.Need-keep-requires
-keep-requires c κs = search needs
-
-keep-requires-2 : tie.Need-keep-requires-2
-keep-requires-2 c κs = search needs
-
-of-head-requires : tie.Need-of-head-requires
-of-head-requires c κs = search needs
 
 returns : tie.Need-returns
 returns c =
@@ -82,15 +37,6 @@ returns c =
     ∙ ap (λ z. head-known (not (keeps true (limit-word (upper-in w (a .base)) bound) (a .greatest))) (not z) (word w (a .base))) y))
     (known-open w (a .n) (a .count) (a .base) (s .pre .0) (a .least) (a .greatest) (s .pre .1) true (c .before .before .before .if3 .taken) (c .before .before .before .before .if2 .taken))
 
-keep-requires-3 : tie.Need-keep-requires-3
-keep-requires-3 c κs = search needs
-
-keep-requires-4 : tie.Need-keep-requires-4
-keep-requires-4 c κs = search needs
-
-of-head-requires-2 : tie.Need-of-head-requires-2
-of-head-requires-2 c κs = search needs
-
 returns-2 : tie.Need-returns-2
 returns-2 c =
     let s = c .before .before .before .before .before .before .before .before .before .before .before in
@@ -109,42 +55,6 @@ returns-2 c =
     ∙ ap (λ z. head-known (not z) (not (c .before .keep4 .result)) (word w (a .base))) x
     ∙ ap (λ z. head-known (not (keeps false (limit-word (upper-in w (a .base)) bound) (a .least))) (not z) (word w (a .base))) y))
     (known-open w (a .n) (a .count) (a .base) (s .pre .0) (a .least) (a .greatest) (s .pre .1) false (c .before .before .before .if3 .left) (c .before .before .before .before .if2 .taken))
-
-kind-of-requires : tie.Need-kind-of-requires
-kind-of-requires c κs = search needs
-
-mul-start : tie.Need-mul-start
-mul-start c = search needs
-
-mul-start-2 : tie.Need-mul-start-2
-mul-start-2 c = search needs
-
-add-start : tie.Need-add-start
-add-start c = search needs
-
-add-start-2 : tie.Need-add-start-2
-add-start-2 c = search needs
-
-mul-start-3 : tie.Need-mul-start-3
-mul-start-3 c = search needs
-
-shared-slice-read-start : tie.Need-shared-slice-read-start
-shared-slice-read-start c = search needs
-
-mul-start-4 : tie.Need-mul-start-4
-mul-start-4 c = search needs
-
-add-start-3 : tie.Need-add-start-3
-add-start-3 c = search needs
-
-add-merged : tie.Need-add-merged
-add-merged c = search needs
-
-mul-merged : tie.Need-mul-merged
-mul-merged c = search needs
-
-shared-slice-read-merged : tie.Need-shared-slice-read-merged
-shared-slice-read-merged c = search needs
 
 of-body-requires : tie.Need-of-body-requires
 of-body-requires c κs =
@@ -218,40 +128,9 @@ pub look-spec : {M : Type 1} → statement M
 look-spec =
     tie.close
     (tie.spec
-    mul-head
-    shared-slice-read-head
-    add-tag
-    mul-tag
-    shared-slice-read-tag
-    add-bound
-    mul-bound
-    shared-slice-read-bound
-    add-limit
-    sub-v
-    add-v
-    mul-v
-    shared-slice-read-v
-    keep-requires
-    keep-requires-2
-    of-head-requires
-    returns
-    keep-requires-3
-    keep-requires-4
-    of-head-requires-2
-    returns-2
-    kind-of-requires
-    mul-start
-    mul-start-2
-    add-start
-    add-start-2
-    mul-start-3
-    shared-slice-read-start
-    mul-start-4
-    add-start-3
-    add-merged
-    mul-merged
-    shared-slice-read-merged
-    of-body-requires
-    returns-3
-    of-body-requires-2
+    (λ c. search needs) (λ c. search needs) (λ c. search needs) (λ c. search needs) (λ c. search needs) (λ c. search needs) (λ c. search needs)
+    (λ c. search needs) add-limit (λ c. search needs) (λ c. search needs) (λ c. search needs) (λ c. search needs) (λ c κs. search needs)
+    (λ c κs. search needs) (λ c κs. search needs) returns (λ c κs. search needs) (λ c κs. search needs) (λ c κs. search needs) returns-2
+    (λ c κs. search needs) (λ c. search needs) (λ c. search needs) (λ c. search needs) (λ c. search needs) (λ c. search needs) (λ c. search needs)
+    (λ c. search needs) (λ c. search needs) (λ c. search needs) (λ c. search needs) (λ c. search needs) of-body-requires returns-3 of-body-requires-2
     returns-4)

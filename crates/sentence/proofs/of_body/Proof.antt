@@ -8,9 +8,6 @@ use Rattle.sentence.specs.Words.{keeps, leaves-second, second-word}
 use Rattle.sentence.proofs.of_body.Statement.{statement}
 use Rattle.sentence.proofs.of_body.Tie as tie
 
-keep-requires : tie.Need-keep-requires
-keep-requires c κs = search needs
-
 returns : tie.Need-returns
 returns c =
     let a = c .before .before .before .args in
@@ -18,9 +15,6 @@ returns c =
     let words = entry-words (a .area .now) (a .start) (a .count) in
     let lost : keeps (a .up) (a .limit) (a .e) ≡ false = sym (c .before .keep .ensures) ∙ not-true (c .before .keep .result) (c .if1 .taken) in
     rw lost
-
-keep-requires-2 : tie.Need-keep-requires-2
-keep-requires-2 c κs = search needs
 
 returns-2 : tie.Need-returns-2
 returns-2 c =
@@ -30,15 +24,6 @@ returns-2 c =
     let held : keeps (a .up) (a .limit) (a .e) ≡ true = sym (c .before .before .before .keep .ensures) ∙ not-false (c .before .before .before .keep .result) (c .before .before .if1 .left) in
     let within : keeps (a .up) (a .limit) (a .o) ≡ true = sym (c .before .keep2 .ensures) ∙ c .if2 .taken in
     rw (held, within)
-
-leaves-second-requires : tie.Need-leaves-second-requires
-leaves-second-requires c κs = search needs
-
-second-requires : tie.Need-second-requires
-second-requires c κs = search needs
-
-keep-requires-3 : tie.Need-keep-requires-3
-keep-requires-3 c κs = search needs
 
 returns-3 : tie.Need-returns-3
 returns-3 c =
@@ -78,13 +63,5 @@ pub of-body-spec : {M : Type 1} → statement M
 of-body-spec =
     tie.close
     (tie.spec
-    keep-requires
-    returns
-    keep-requires-2
-    returns-2
-    leaves-second-requires
-    second-requires
-    keep-requires-3
-    returns-3
-    returns-4
-    returns-5)
+    (λ c κs. search needs) returns (λ c κs. search needs) returns-2 (λ c κs. search needs) (λ c κs. search needs) (λ c κs. search needs) returns-3
+    returns-4 returns-5)

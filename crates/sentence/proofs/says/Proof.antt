@@ -7,21 +7,6 @@ use Rattle.sentence.proofs.Unscanned.{known-so}
 use Rattle.sentence.proofs.says.Statement.{statement}
 use Rattle.sentence.proofs.says.Tie as tie
 
-look-requires : tie.Need-look-requires
-look-requires c κs = search needs
-
-enum-told : tie.Need-enum-told
-enum-told c = search needs
-
-enum-told-2 : tie.Need-enum-told-2
-enum-told-2 c = search needs
-
-enum-known-l : tie.Need-enum-known-l
-enum-known-l c = search needs
-
-enum-known-body : tie.Need-enum-known-body
-enum-known-body c = search needs
-
 scan-requires : tie.Need-scan-requires
 scan-requires c κs =
     let ready = known-so (c .before .before .before .look .ensures) (c .before .body .given .1) .placed in
@@ -46,13 +31,5 @@ pub says-spec : {M : Type 1} → statement M
 says-spec =
     tie.close
     (tie.spec
-    look-requires
-    enum-told
-    enum-told-2
-    enum-known-l
-    enum-known-body
-    scan-requires
-    returns
-    returns-2
-    returns-3
+    (λ c κs. search needs) (λ c. search needs) (λ c. search needs) (λ c. search needs) (λ c. search needs) scan-requires returns returns-2 returns-3
     returns-4)

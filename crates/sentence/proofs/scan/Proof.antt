@@ -29,30 +29,6 @@ loop-holds c =
       scanning-starts (x .kind) (x .up) (x .limit) (x .extreme) v area (x .start) (x .merged) (scanned (x .kind) (x .up) (x .limit) (x .extreme) v (entry-words area (x .start) (x .merged))) (c .before .pre .1) refl,
     )
 
-mul-at : tie.Need-mul-at Inv-loop μ-loop
-mul-at c = search needs
-
-add-at : tie.Need-add-at Inv-loop μ-loop
-add-at c = search needs
-
-mul-w : tie.Need-mul-w Inv-loop μ-loop
-mul-w c = search needs
-
-shared-slice-read-w : tie.Need-shared-slice-read-w Inv-loop μ-loop
-shared-slice-read-w c = search needs
-
-add-l : tie.Need-add-l Inv-loop μ-loop
-add-l c = search needs
-
-mul-l : tie.Need-mul-l Inv-loop μ-loop
-mul-l c = search needs
-
-shared-slice-read-l : tie.Need-shared-slice-read-l Inv-loop μ-loop
-shared-slice-read-l c = search needs
-
-sub-v : tie.Need-sub-v Inv-loop μ-loop
-sub-v c = search needs
-
 add-v : tie.Need-add-v Inv-loop μ-loop
 add-v c = omega (arith, c .before .before .before .before .before .pre .0 .atom-high (c .before .before .before .loop .i) (c .before .before .loop-test .taken))
 
@@ -103,12 +79,6 @@ returns c =
     let s : Scanning (x .kind) (x .up) (x .limit) (x .extreme) v (words-from area (x .start) (x .merged) i) answer = c .before .before .before .before .before .before .before .loop .inv .1 in
     ap Forced (c .entry-wanted .ensures) ∙ scanning-found (x .kind) (x .up) (x .limit) (x .extreme) v area (x .start) (x .merged) answer i h g s true (sym (c .before .before .entry-turns .ensures) ∙ c .before .if1 .taken)
 
-add-i : tie.Need-add-i Inv-loop μ-loop
-add-i c = search needs
-
-loop-less : tie.Need-loop-less Inv-loop μ-loop
-loop-less c = search needs
-
 loop-again : tie.Need-loop-again Inv-loop μ-loop
 loop-again c =
     let a = c .before .before .before .before .before .before .before .before .args in
@@ -135,24 +105,6 @@ pub scan-spec : {M : Type 1} → statement M
 scan-spec =
     tie.close
     (tie.spec
-    Inv-loop
-    μ-loop
-    loop-holds
-    mul-at
-    add-at
-    mul-w
-    shared-slice-read-w
-    add-l
-    mul-l
-    shared-slice-read-l
-    sub-v
-    add-v
-    mul-v
-    shared-slice-read-v
-    entry-turns-requires
-    entry-wanted-requires
-    returns
-    add-i
-    loop-less
-    loop-again
-    returns-2)
+    Inv-loop μ-loop loop-holds (λ c. search needs) (λ c. search needs) (λ c. search needs) (λ c. search needs) (λ c. search needs) (λ c. search needs)
+    (λ c. search needs) (λ c. search needs) add-v mul-v shared-slice-read-v entry-turns-requires entry-wanted-requires returns (λ c. search needs)
+    (λ c. search needs) loop-again returns-2)

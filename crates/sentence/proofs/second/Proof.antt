@@ -35,30 +35,6 @@ loop-holds c =
       e,
     )
 
-mul-at : tie.Need-mul-at Inv-loop μ-loop
-mul-at c = search needs
-
-add-at : tie.Need-add-at Inv-loop μ-loop
-add-at c = search needs
-
-mul-w : tie.Need-mul-w Inv-loop μ-loop
-mul-w c = search needs
-
-shared-slice-read-w : tie.Need-shared-slice-read-w Inv-loop μ-loop
-shared-slice-read-w c = search needs
-
-add-l : tie.Need-add-l Inv-loop μ-loop
-add-l c = search needs
-
-mul-l : tie.Need-mul-l Inv-loop μ-loop
-mul-l c = search needs
-
-shared-slice-read-l : tie.Need-shared-slice-read-l Inv-loop μ-loop
-shared-slice-read-l c = search needs
-
-sub-v : tie.Need-sub-v Inv-loop μ-loop
-sub-v c = search needs
-
 add-v : tie.Need-add-v Inv-loop μ-loop
 add-v c = omega (arith, c .before .before .before .before .before .before .pre .atom-high (c .before .before .before .loop .i) (c .before .before .loop-test .taken))
 
@@ -67,24 +43,6 @@ mul-v c = omega (arith, c .before .before .before .before .before .before .pre .
 
 shared-slice-read-v : tie.Need-shared-slice-read-v Inv-loop μ-loop
 shared-slice-read-v c = omega (arith, c .before .before .before .before .before .before .before .pre .literal (c .before .before .before .before .loop .i) (c .before .before .before .loop-test .taken), c .before .before .before .before .before .before .before .pre .atom-high (c .before .before .before .before .loop .i) (c .before .before .before .loop-test .taken))
-
-reach-requires : tie.Need-reach-requires Inv-loop μ-loop
-reach-requires c κs = search needs
-
-nearest-requires : tie.Need-nearest-requires Inv-loop μ-loop
-nearest-requires c κs = search needs
-
-furthest-requires : tie.Need-furthest-requires Inv-loop μ-loop
-furthest-requires c κs = search needs
-
-furthest-requires-2 : tie.Need-furthest-requires-2 Inv-loop μ-loop
-furthest-requires-2 c κs = search needs
-
-add-i : tie.Need-add-i Inv-loop μ-loop
-add-i c = search needs
-
-loop-less : tie.Need-loop-less Inv-loop μ-loop
-loop-less c = search needs
 
 loop-again : tie.Need-loop-again Inv-loop μ-loop
 loop-again c =
@@ -121,27 +79,7 @@ pub second-spec : {M : Type 1} → statement M
 second-spec =
     tie.close
     (tie.spec
-    Inv-loop
-    μ-loop
-    (λ c κs. search needs)
-    (λ c κs. search needs)
-    loop-holds
-    mul-at
-    add-at
-    mul-w
-    shared-slice-read-w
-    add-l
-    mul-l
-    shared-slice-read-l
-    sub-v
-    add-v
-    mul-v
-    shared-slice-read-v
-    reach-requires
-    nearest-requires
-    furthest-requires
-    furthest-requires-2
-    add-i
-    loop-less
-    loop-again
+    Inv-loop μ-loop (λ c κs. search needs) (λ c κs. search needs) loop-holds (λ c. search needs) (λ c. search needs) (λ c. search needs)
+    (λ c. search needs) (λ c. search needs) (λ c. search needs) (λ c. search needs) (λ c. search needs) add-v mul-v shared-slice-read-v
+    (λ c κs. search needs) (λ c κs. search needs) (λ c κs. search needs) (λ c κs. search needs) (λ c. search needs) (λ c. search needs) loop-again
     returns)

@@ -13,44 +13,8 @@ use Rattle.sentence.proofs.Unspoken.{settled-open, settled-fixed}
 use Rattle.sentence.proofs.settled.Statement.{statement}
 use Rattle.sentence.proofs.settled.Tie as tie
 
-mul-head : tie.Need-mul-head
-mul-head c = search needs
-
-shared-slice-read-head : tie.Need-shared-slice-read-head
-shared-slice-read-head c = search needs
-
-add-tag : tie.Need-add-tag
-add-tag c = search needs
-
-mul-tag : tie.Need-mul-tag
-mul-tag c = search needs
-
-shared-slice-read-tag : tie.Need-shared-slice-read-tag
-shared-slice-read-tag c = search needs
-
-add-bound : tie.Need-add-bound
-add-bound c = search needs
-
-mul-bound : tie.Need-mul-bound
-mul-bound c = search needs
-
-shared-slice-read-bound : tie.Need-shared-slice-read-bound
-shared-slice-read-bound c = search needs
-
 add-limit : tie.Need-add-limit
 add-limit c = let s = c .before .before .before .before in omega (arith, bound-high (s .args .area .now) (s .args .n) (s .args .count) (s .args .base) (s .pre .0))
-
-sub-v : tie.Need-sub-v
-sub-v c = search needs
-
-add-v : tie.Need-add-v
-add-v c = search needs
-
-mul-v : tie.Need-mul-v
-mul-v c = search needs
-
-shared-slice-read-v : tie.Need-shared-slice-read-v
-shared-slice-read-v c = search needs
 
 returns : tie.Need-returns
 returns c = λ e. absurd (true≢false (sym e))
@@ -114,22 +78,6 @@ pub settled-spec : {M : Type 1} → statement M
 settled-spec =
     tie.close
     (tie.spec
-    mul-head
-    shared-slice-read-head
-    add-tag
-    mul-tag
-    shared-slice-read-tag
-    add-bound
-    mul-bound
-    shared-slice-read-bound
-    add-limit
-    sub-v
-    add-v
-    mul-v
-    shared-slice-read-v
-    returns
-    returns-2
-    returns-3
-    returns-4
-    returns-5
-    returns-6)
+    (λ c. search needs) (λ c. search needs) (λ c. search needs) (λ c. search needs) (λ c. search needs) (λ c. search needs) (λ c. search needs)
+    (λ c. search needs) add-limit (λ c. search needs) (λ c. search needs) (λ c. search needs) (λ c. search needs) returns returns-2 returns-3
+    returns-4 returns-5 returns-6)

@@ -7,4 +7,6 @@ returns : tie.Need-returns
 returns c = told-sign _ (c .fits .x)
 
 pub negative-spec : {M : Type 1} → statement M
-negative-spec = tie.close (tie.spec returns)
+negative-spec = tie.close
+    (tie.spec
+    returns)

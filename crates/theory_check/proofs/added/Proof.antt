@@ -11,12 +11,6 @@ returns c = told-no (λ h. odd-other (c .before .args .literal) (c .before .pre 
 returns-2 : tie.Need-returns-2
 returns-2 c = told-no (λ h. h .something (no-weight (c .before .before .args .weight) (c .if2 .taken)))
 
-mul-near : tie.Need-mul-near
-mul-near c = search needs
-
-near-requires : tie.Need-near-requires
-near-requires c κs = search needs
-
 returns-3 : tie.Need-returns-3
 returns-3 c = told-same
     (c .near .ensures)
@@ -28,4 +22,6 @@ returns-3 c = told-same
     (λ q. q .size)
 
 pub added-spec : {M : Type 1} → statement M
-added-spec = tie.close (tie.spec returns returns-2 mul-near near-requires returns-3)
+added-spec = tie.close
+    (tie.spec
+    returns returns-2 (λ c. search needs) (λ c κs. search needs) returns-3)

@@ -5,20 +5,8 @@ use Rattle.theory_check.proofs.Weights.{constant-sum, constant-other, t
 use Rattle.theory_check.proofs.constant_ok.Statement.{statement}
 use Rattle.theory_check.proofs.constant_ok.Tie as tie
 
-mul-near : tie.Need-mul-near
-mul-near c = search needs
-
-near-requires : tie.Need-near-requires
-near-requires c κs = search needs
-
 returns : tie.Need-returns
 returns c = constant-sum _ _ _ (inl (c .before .if1 .taken)) (c .near .ensures)
-
-mul-near-2 : tie.Need-mul-near-2
-mul-near-2 c = search needs
-
-near-requires-2 : tie.Need-near-requires-2
-near-requires-2 c κs = search needs
 
 returns-2 : tie.Need-returns-2
 returns-2 c = constant-sum _ _ _ (inr (c .before .if2 .taken)) (c .near2 .ensures)
@@ -29,4 +17,5 @@ returns-3 c = constant-other _ _ _ (c .before .if1 .left) (c .if2 .left) (told-e
 pub constant-ok-spec : {M : Type 1} → statement M
 constant-ok-spec =
     tie.close
-    (tie.spec mul-near near-requires returns mul-near-2 near-requires-2 returns-2 returns-3)
+    (tie.spec
+    (λ c. search needs) (λ c κs. search needs) returns (λ c. search needs) (λ c κs. search needs) returns-2 returns-3)

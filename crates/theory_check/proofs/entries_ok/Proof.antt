@@ -48,59 +48,8 @@ grew : (c : tie.After-grown Inv-loop μ-loop) → let s = start (c .before .befo
 grew c = let s = start (c .before .before .before) in let l = c .before .before .before .before .before .before .before .before .loop in
     subst (λ (k : ℕ). Grown k (l .product) (word (s .args .area .now) (s .args .at + 2 * l .i)) (c .grown .result)) (s .pre .1) (c .grown .ensures)
 
-add-stamp : tie.Need-add-stamp Inv-loop μ-loop
-add-stamp c = search needs
-
-mul-head : tie.Need-mul-head Inv-loop μ-loop
-mul-head c = search needs
-
-shared-slice-read-head : tie.Need-shared-slice-read-head Inv-loop μ-loop
-shared-slice-read-head c = search needs
-
-add-counts : tie.Need-add-counts Inv-loop μ-loop
-add-counts c = search needs
-
-mul-counts : tie.Need-mul-counts Inv-loop μ-loop
-mul-counts c = search needs
-
-shared-slice-read-counts : tie.Need-shared-slice-read-counts Inv-loop μ-loop
-shared-slice-read-counts c = search needs
-
 loop-holds : tie.Need-loop-holds Inv-loop μ-loop
 loop-holds c = (omega arith, none-passed _ _ _ _ _ _ (c .before .before .before .before .pre .0 .stamps))
-
-mul-weight : tie.Need-mul-weight Inv-loop μ-loop
-mul-weight c = search needs
-
-add-weight : tie.Need-add-weight Inv-loop μ-loop
-add-weight c = search needs
-
-mul-weight-2 : tie.Need-mul-weight-2 Inv-loop μ-loop
-mul-weight-2 c = search needs
-
-shared-slice-read-weight : tie.Need-shared-slice-read-weight Inv-loop μ-loop
-shared-slice-read-weight c = search needs
-
-mul-literal : tie.Need-mul-literal Inv-loop μ-loop
-mul-literal c = search needs
-
-add-literal : tie.Need-add-literal Inv-loop μ-loop
-add-literal c = search needs
-
-add-literal-2 : tie.Need-add-literal-2 Inv-loop μ-loop
-add-literal-2 c = search needs
-
-mul-literal-2 : tie.Need-mul-literal-2 Inv-loop μ-loop
-mul-literal-2 c = search needs
-
-shared-slice-read-literal : tie.Need-shared-slice-read-literal Inv-loop μ-loop
-shared-slice-read-literal c = search needs
-
-entry-ok-requires : tie.Need-entry-ok-requires Inv-loop μ-loop
-entry-ok-requires c κs = search needs
-
-same-length : tie.Need-same-length Inv-loop μ-loop
-same-length c = search needs
 
 returns : tie.Need-returns Inv-loop μ-loop
 returns c = let s = c .before .before .before .before .before .before .before .before .before .before in
@@ -109,14 +58,8 @@ returns c = let s = c .before .before .before .before .before .before .before .b
       stamps = stamps-upto (atom-at (s .args .area .now) (s .args .at)) _ _ _ (c .before .before .before .before .before .loop .inv .1 .stamped);
     }
 
-mul-if2 : tie.Need-mul-if2 Inv-loop μ-loop
-mul-if2 c = omega (arith, below c)
-
 slice-read-if2 : tie.Need-slice-read-if2 Inv-loop μ-loop
 slice-read-if2 c = omega (arith, below (c .before), c .before .before .before .before .before .before .loop .inv .1 .stamped .size)
-
-same-length-2 : tie.Need-same-length-2 Inv-loop μ-loop
-same-length-2 c = search needs
 
 returns-2 : tie.Need-returns-2 Inv-loop μ-loop
 returns-2 c = let s = c .before .before .before .before .before .before .before .before .before .before .before .before in
@@ -125,9 +68,6 @@ returns-2 c = let s = c .before .before .before .before .before .before .before 
           (c .before .before .before .before .before .before .before .loop .product) (c .before .before .before .before .before .before .before .loop .inv .1) (below (c .before .before)) (c .before .before .before .before .before .before .loop-test .taken) (c .if2 .taken));
       stamps = stamps-upto (atom-at (s .args .area .now) (s .args .at)) _ _ _ (c .before .before .before .before .before .before .before .loop .inv .1 .stamped);
     }
-
-mul-seen : tie.Need-mul-seen Inv-loop μ-loop
-mul-seen c = omega (arith, below (c .before .before))
 
 slice-write-seen : tie.Need-slice-write-seen Inv-loop μ-loop
 slice-write-seen c = omega (arith, below (c .before .before), c .before .before .before .before .before .before .before .loop .inv .1 .stamped .size)
@@ -151,21 +91,12 @@ returns-3 c = let s = c .before .before .before .before .before .before .before 
           (one-stamped (atom-at (s .args .area .now) (s .args .at)) _ _ _ (c .before .before .before .before .before .before .before .before .before .loop .inv .1 .stamped) (below (c .before .before .before .before)) _ (omega arith) (c .before .before .if2 .left));
     }
 
-add-i : tie.Need-add-i Inv-loop μ-loop
-add-i c = search needs
-
-loop-less : tie.Need-loop-less Inv-loop μ-loop
-loop-less c = search needs
-
 loop-again : tie.Need-loop-again Inv-loop μ-loop
 loop-again c = let s = c .before .before .before .before .before .before .before .before .before .before .before .before .before .before in (
   omega arith,
   one-passed (s .args .area .now) (s .args .n) (s .args .base) (s .args .at) (s .args .old) (c .before .before .before .before .before .before .before .before .before .loop .i) (c .before .before .before .before .before .before .before .before .before .loop .seen) (c .before .before .before .before .before .before .before .before .before .loop .product)
       (c .before .before .before .before .before .before .before .before .before .loop .inv .1) _ _ (omega arith) (below (c .before .before .before .before)) (c .before .before .if2 .left) (told (c .before .before .before .before)) (grew (c .before)) (c .if3 .left),
 )
-
-same-length-4 : tie.Need-same-length-4 Inv-loop μ-loop
-same-length-4 c = search needs
 
 returns-4 : tie.Need-returns-4 Inv-loop μ-loop
 returns-4 c = let s = c .before .before .before .before .before .before in
@@ -178,38 +109,8 @@ pub entries-ok-spec : {M : Type 1} → statement M
 entries-ok-spec =
     tie.close
     (tie.spec
-    Inv-loop
-    μ-loop
-    add-stamp
-    mul-head
-    shared-slice-read-head
-    add-counts
-    mul-counts
-    shared-slice-read-counts
-    loop-holds
-    mul-weight
-    add-weight
-    mul-weight-2
-    shared-slice-read-weight
-    mul-literal
-    add-literal
-    add-literal-2
-    mul-literal-2
-    shared-slice-read-literal
-    entry-ok-requires
-    same-length
-    returns
-    mul-if2
-    slice-read-if2
-    same-length-2
-    returns-2
-    mul-seen
-    slice-write-seen
-    grown-requires
-    same-length-3
-    returns-3
-    add-i
-    loop-less
-    loop-again
-    same-length-4
-    returns-4)
+    Inv-loop μ-loop (λ c. search needs) (λ c. search needs) (λ c. search needs) (λ c. search needs) (λ c. search needs) (λ c. search needs) loop-holds
+    (λ c. search needs) (λ c. search needs) (λ c. search needs) (λ c. search needs) (λ c. search needs) (λ c. search needs) (λ c. search needs)
+    (λ c. search needs) (λ c. search needs) (λ c κs. search needs) (λ c. search needs) returns (λ c. omega (arith, below c)) slice-read-if2
+    (λ c. search needs) returns-2 (λ c. omega (arith, below (c .before .before))) slice-write-seen grown-requires same-length-3 returns-3
+    (λ c. search needs) (λ c. search needs) loop-again (λ c. search needs) returns-4)

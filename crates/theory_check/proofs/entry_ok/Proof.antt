@@ -16,9 +16,6 @@ returns-2 c = told-no (λ h. omega (arith, h .atom-high, atom-half (c .before .b
 returns-3 : tie.Need-returns-3
 returns-3 c = told-no (λ h. h .other (atom-half (c .before .before .before .args .literal) ∙ c .if3 .taken))
 
-weight-ok-requires : tie.Need-weight-ok-requires
-weight-ok-requires c κs = search needs
-
 returns-4 : tie.Need-returns-4
 returns-4 c = told-no (λ h. denied (c .before .weight-ok .ensures) (c .if4 .taken) (h .weighs))
 
@@ -32,4 +29,6 @@ returns-5 c = told-yes (record {
 
 pub entry-ok-spec : {M : Type 1} → statement M
 entry-ok-spec =
-    tie.close (tie.spec returns returns-2 returns-3 weight-ok-requires returns-4 returns-5)
+    tie.close
+    (tie.spec
+    returns returns-2 returns-3 (λ c κs. search needs) returns-4 returns-5)

@@ -14,9 +14,6 @@ returns c = record { is = λ q. absurd (c .if1 .taken q); high = c .before .pre 
 factor-low : (c : tie.Else1) → 1 ≤ c .before .args .weight - half
 factor-low c = omega (arith, c .before .pre .2 (c .if1 .left))
 
-sub-factor : tie.Need-sub-factor
-sub-factor c = omega (arith, factor-low c)
-
 mul-next : tie.Need-mul-next
 mul-next c =
     let p = c .before .before .args .product in
@@ -31,9 +28,6 @@ returns-3 c =
     let s = c .before .before .before in
     let h : 1 ≤ s .args .product * (s .args .weight - half) = one-le-mul (s .pre .0) (factor-low (c .before .before)) in
     record { is = λ q g. refl; high = c .if3 .left; past = λ z. absurd (omega arith) }
-
-div-if4 : tie.Need-div-if4
-div-if4 c = omega (arith, factor-low (c .before))
 
 returns-4 : tie.Need-returns-4
 returns-4 c =
@@ -52,4 +46,7 @@ returns-5 c =
     record { is = λ q g. refl; high = le-div-iff-mul-le (factor-low (c .before .before)) .0 (c .if4 .left); past = λ z. absurd (omega arith) }
 
 pub grown-spec : {M : Type 1} → statement M
-grown-spec = tie.close (tie.spec returns sub-factor mul-next returns-2 returns-3 div-if4 returns-4 mul-result returns-5)
+grown-spec = tie.close
+    (tie.spec
+    returns (λ c. omega (arith, factor-low c)) mul-next returns-2 returns-3 (λ c. omega (arith, factor-low (c .before))) returns-4 mul-result
+    returns-5)

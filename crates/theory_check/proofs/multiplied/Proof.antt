@@ -9,9 +9,6 @@ use Rattle.theory_check.proofs.multiplied.Tie as tie
 returns : tie.Need-returns
 returns c = told-no (λ h. omega (arith, one-from (c .before .args .weight) (h .low)))
 
-add-if2 : tie.Need-add-if2
-add-if2 c = search needs
-
 returns-2 : tie.Need-returns-2
 returns-2 c = told-no (λ h. not-high (c .before .before .args .weight) 1000000000000000000 (c .if2 .taken) (h .high))
 
@@ -22,4 +19,6 @@ returns-3 c = told-yes (record {
 })
 
 pub multiplied-spec : {M : Type 1} → statement M
-multiplied-spec = tie.close (tie.spec returns add-if2 returns-2 returns-3)
+multiplied-spec = tie.close
+    (tie.spec
+    returns (λ c. search needs) returns-2 returns-3)

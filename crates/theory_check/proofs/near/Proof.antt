@@ -5,14 +5,8 @@ use Rattle.theory_check.proofs.Weights.{near-yes, not-low, not-high}
 use Rattle.theory_check.proofs.near.Statement.{statement}
 use Rattle.theory_check.proofs.near.Tie as tie
 
-sub-if1 : tie.Need-sub-if1
-sub-if1 c = search needs
-
 returns : tie.Need-returns
 returns c = told-no (not-low (c .before .args .x) (c .before .args .limit) (c .before .pre) (c .if1 .taken))
-
-add-if2 : tie.Need-add-if2
-add-if2 c = search needs
 
 returns-2 : tie.Need-returns-2
 returns-2 c = told-no (not-high (c .before .before .args .x) (c .before .before .args .limit) (c .if2 .taken))
@@ -21,4 +15,6 @@ returns-3 : tie.Need-returns-3
 returns-3 c = told-yes (near-yes (c .before .before .args .x) (c .before .before .args .limit) (search needs) (search needs))
 
 pub near-spec : {M : Type 1} → statement M
-near-spec = tie.close (tie.spec sub-if1 returns add-if2 returns-2 returns-3)
+near-spec = tie.close
+    (tie.spec
+    (λ c. search needs) returns (λ c. search needs) returns-2 returns-3)

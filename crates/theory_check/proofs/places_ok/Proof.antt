@@ -24,50 +24,14 @@ all c = let e : c .before .loop .s ≡ c .before .before .args .count = omega ar
 loop-holds : tie.Need-loop-holds Inv-loop μ-loop
 loop-holds c = (omega arith, sym (none-before _ _), omega arith, below-none _)
 
-mul-base : tie.Need-mul-base Inv-loop μ-loop
-mul-base c = search needs
-
-mul-base-2 : tie.Need-mul-base-2 Inv-loop μ-loop
-mul-base-2 c = search needs
-
-add-base : tie.Need-add-base Inv-loop μ-loop
-add-base c = search needs
-
-add-if1 : tie.Need-add-if1 Inv-loop μ-loop
-add-if1 c = search needs
-
-mul-if1 : tie.Need-mul-if1 Inv-loop μ-loop
-mul-if1 c = search needs
-
-shared-slice-read-if1 : tie.Need-shared-slice-read-if1 Inv-loop μ-loop
-shared-slice-read-if1 c = search needs
-
 returns : tie.Need-returns Inv-loop μ-loop
 returns c = told-no (λ h. c .if1 .taken (h .each (c .before .before .before .loop .s) (omega arith) .place ∙ sym (c .before .before .before .loop .inv .1)))
-
-add-counts : tie.Need-add-counts Inv-loop μ-loop
-add-counts c = search needs
-
-mul-counts : tie.Need-mul-counts Inv-loop μ-loop
-mul-counts c = search needs
-
-shared-slice-read-counts : tie.Need-shared-slice-read-counts Inv-loop μ-loop
-shared-slice-read-counts c = search needs
 
 returns-2 : tie.Need-returns-2 Inv-loop μ-loop
 returns-2 c = told-no (λ h. omega (arith, h .each (c .before .before .before .before .before .before .loop .s) (omega arith) .few))
 
 returns-3 : tie.Need-returns-3 Inv-loop μ-loop
 returns-3 c = told-no (λ h. omega (arith, h .each (c .before .before .before .before .before .before .before .loop .s) (omega arith) .merged))
-
-add-before : tie.Need-add-before Inv-loop μ-loop
-add-before c = search needs
-
-add-s : tie.Need-add-s Inv-loop μ-loop
-add-s c = search needs
-
-loop-less : tie.Need-loop-less Inv-loop μ-loop
-loop-less c = search needs
 
 loop-again : tie.Need-loop-again Inv-loop μ-loop
 loop-again c = (
@@ -79,21 +43,6 @@ loop-again c = (
 
 returns-4 : tie.Need-returns-4 Inv-loop μ-loop
 returns-4 c = told-no (λ h. omega (arith, h .entries, all (c .before .before)))
-
-mul-if5 : tie.Need-mul-if5 Inv-loop μ-loop
-mul-if5 c = search needs
-
-mul-if5-2 : tie.Need-mul-if5-2 Inv-loop μ-loop
-mul-if5-2 c = search needs
-
-add-if5 : tie.Need-add-if5 Inv-loop μ-loop
-add-if5 c = search needs
-
-mul-if5-3 : tie.Need-mul-if5-3 Inv-loop μ-loop
-mul-if5-3 c = search needs
-
-add-if5-2 : tie.Need-add-if5-2 Inv-loop μ-loop
-add-if5-2 c = search needs
 
 returns-5 : tie.Need-returns-5 Inv-loop μ-loop
 returns-5 c = told-no (λ h. omega (arith, h .room, all (c .before .before .before)))
@@ -109,30 +58,7 @@ pub places-ok-spec : {M : Type 1} → statement M
 places-ok-spec =
     tie.close
     (tie.spec
-    Inv-loop
-    μ-loop
-    loop-holds
-    mul-base
-    mul-base-2
-    add-base
-    add-if1
-    mul-if1
-    shared-slice-read-if1
-    returns
-    add-counts
-    mul-counts
-    shared-slice-read-counts
-    returns-2
-    returns-3
-    add-before
-    add-s
-    loop-less
-    loop-again
-    returns-4
-    mul-if5
-    mul-if5-2
-    add-if5
-    mul-if5-3
-    add-if5-2
-    returns-5
-    returns-6)
+    Inv-loop μ-loop loop-holds (λ c. search needs) (λ c. search needs) (λ c. search needs) (λ c. search needs) (λ c. search needs) (λ c. search needs)
+    returns (λ c. search needs) (λ c. search needs) (λ c. search needs) returns-2 returns-3 (λ c. search needs) (λ c. search needs)
+    (λ c. search needs) loop-again returns-4 (λ c. search needs) (λ c. search needs) (λ c. search needs) (λ c. search needs) (λ c. search needs)
+    returns-5 returns-6)

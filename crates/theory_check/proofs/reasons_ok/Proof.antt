@@ -23,12 +23,6 @@ reason-ok-requires c κs = (c .before .before .before .pre, c .loop-test .taken)
 returns : tie.Need-returns Inv-loop μ-loop
 returns c = told-no (λ h. denied (c .before .reason-ok .ensures) (c .if1 .taken) (h (c .before .before .before .loop .i) (omega arith)))
 
-add-i : tie.Need-add-i Inv-loop μ-loop
-add-i c = search needs
-
-loop-less : tie.Need-loop-less Inv-loop μ-loop
-loop-less c = search needs
-
 loop-again : tie.Need-loop-again Inv-loop μ-loop
 loop-again c = (omega arith, below-more _ _ (c .before .before .before .loop .inv .1) (granted (c .before .reason-ok .ensures) (c .if1 .left)))
 
@@ -39,12 +33,4 @@ pub reasons-ok-spec : {M : Type 1} → statement M
 reasons-ok-spec =
     tie.close
     (tie.spec
-    Inv-loop
-    μ-loop
-    loop-holds
-    reason-ok-requires
-    returns
-    add-i
-    loop-less
-    loop-again
-    returns-2)
+    Inv-loop μ-loop loop-holds reason-ok-requires returns (λ c. search needs) (λ c. search needs) loop-again returns-2)

@@ -7,9 +7,6 @@ use Rattle.theory_check.proofs.Sentences.{sentence-from, own-words, own
 use Rattle.theory_check.proofs.sentence_ok.Statement.{statement}
 use Rattle.theory_check.proofs.sentence_ok.Tie as tie
 
-record-ok-requires : tie.Need-record-ok-requires
-record-ok-requires c κs = search needs
-
 returns : tie.Need-returns
 returns c = let s = c .before .before .before .before in
     record {
@@ -17,30 +14,6 @@ returns c = let s = c .before .before .before .before in
           (own-words (s .args .lim) (s .args .area .now) (s .args .n) (s .args .count) (s .args .base) (omega (arith, s .pre .room, s .pre .merged)) h));
       stamps = stamps-more (s .args .seen .now) (s .args .old) _ (s .pre .stamps) (omega arith);
     }
-
-mul-at : tie.Need-mul-at
-mul-at c = search needs
-
-mul-at-2 : tie.Need-mul-at-2
-mul-at-2 c = search needs
-
-add-at : tie.Need-add-at
-add-at c = search needs
-
-add-at-2 : tie.Need-add-at-2
-add-at-2 c = search needs
-
-mul-at-3 : tie.Need-mul-at-3
-mul-at-3 c = search needs
-
-shared-slice-read-at : tie.Need-shared-slice-read-at
-shared-slice-read-at c = search needs
-
-mul-at-4 : tie.Need-mul-at-4
-mul-at-4 c = search needs
-
-add-at-3 : tie.Need-add-at-3
-add-at-3 c = search needs
 
 entries-by-kind-requires : tie.Need-entries-by-kind-requires
 entries-by-kind-requires c κs = let s = c .before .before .before .before .before .before in
@@ -55,9 +28,6 @@ entries-by-kind-requires c κs = let s = c .before .before .before .before .befo
       stamps-high = s .pre .stamps-high;
     }
 
-same-length : tie.Need-same-length
-same-length c = search needs
-
 returns-2 : tie.Need-returns-2
 returns-2 c = let s = c .before .before .before .before .before .before .before .before .before .before in
     record {
@@ -66,33 +36,6 @@ returns-2 c = let s = c .before .before .before .before .before .before .before 
       stamps = c .before .before .before .entries-by-kind .ensures .stamps;
     }
 
-add-counts : tie.Need-add-counts
-add-counts c = search needs
-
-mul-counts : tie.Need-mul-counts
-mul-counts c = search needs
-
-shared-slice-read-counts : tie.Need-shared-slice-read-counts
-shared-slice-read-counts c = search needs
-
-mul-blank : tie.Need-mul-blank
-mul-blank c = search needs
-
-add-blank : tie.Need-add-blank
-add-blank c = search needs
-
-mul-blank-2 : tie.Need-mul-blank-2
-mul-blank-2 c = search needs
-
-add-blank-2 : tie.Need-add-blank-2
-add-blank-2 c = search needs
-
-blank-requires : tie.Need-blank-requires
-blank-requires c κs = search needs
-
-same-length-2 : tie.Need-same-length-2
-same-length-2 c = search needs
-
 returns-3 : tie.Need-returns-3
 returns-3 c = let s = c .before .before .before .before .before .before .before .before .before .before .before .before .before in
     record {
@@ -100,9 +43,6 @@ returns-3 c = let s = c .before .before .before .before .before .before .before 
           (own-rest (s .args .lim) (s .args .area .now) (s .args .n) (s .args .count) (s .args .base) (omega (arith, s .pre .room, s .pre .merged)) h));
       stamps = c .before .before .before .before .before .before .entries-by-kind .ensures .stamps;
     }
-
-same-length-3 : tie.Need-same-length-3
-same-length-3 c = search needs
 
 returns-4 : tie.Need-returns-4
 returns-4 c = let s = c .before .before .before .before .before .before .before .before .before .before .before .before .before in
@@ -119,28 +59,7 @@ pub sentence-ok-spec : {M : Type 1} → statement M
 sentence-ok-spec =
     tie.close
     (tie.spec
-    record-ok-requires
-    returns
-    mul-at
-    mul-at-2
-    add-at
-    add-at-2
-    mul-at-3
-    shared-slice-read-at
-    mul-at-4
-    add-at-3
-    entries-by-kind-requires
-    same-length
-    returns-2
-    add-counts
-    mul-counts
-    shared-slice-read-counts
-    mul-blank
-    add-blank
-    mul-blank-2
-    add-blank-2
-    blank-requires
-    same-length-2
-    returns-3
-    same-length-3
-    returns-4)
+    (λ c κs. search needs) returns (λ c. search needs) (λ c. search needs) (λ c. search needs) (λ c. search needs) (λ c. search needs)
+    (λ c. search needs) (λ c. search needs) (λ c. search needs) entries-by-kind-requires (λ c. search needs) returns-2 (λ c. search needs)
+    (λ c. search needs) (λ c. search needs) (λ c. search needs) (λ c. search needs) (λ c. search needs) (λ c. search needs) (λ c κs. search needs)
+    (λ c. search needs) returns-3 (λ c. search needs) returns-4)

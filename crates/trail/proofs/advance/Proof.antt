@@ -9,12 +9,6 @@ use Rattle.trail.proofs.advance.Tie as tie
 put-requires : tie.Need-put-requires
 put-requires c κs = let s = c .before .before in put-ready (s .pre .0) (s .args .area .now) (s .args .n) (s .args .count) (s .args .len) (s .pre .1) (s .args .literal) (s .args .mark) (s .pre .2)
 
-only-requires : tie.Need-only-requires
-only-requires c κs = search needs
-
-slice-aggregate-refresh : tie.Need-slice-aggregate-refresh
-slice-aggregate-refresh c = search needs
-
 refresh-requires : tie.Need-refresh-requires
 refresh-requires c κs =
     let s = c .before .before .before .before .before .before .before .before in
@@ -26,9 +20,6 @@ refresh-requires c κs =
           (refresh-ready (s .pre .0) w (s .args .n) (s .args .count) (s .args .len) (s .pre .1) (s .args .literal) (s .args .mark) (s .pre .2) table (made .1) (made .0)),
     )
 
-same-length : tie.Need-same-length
-same-length c = search needs
-
 returns : tie.Need-returns
 returns c = λ lim level a.
     let s = c .before .before .before .before .before .before .before .before .before .before .before in
@@ -39,4 +30,6 @@ returns c = λ lim level a.
     (subst (λ v. Refreshed v (c .before .before .refresh .last .0) (s .args .n) (s .args .count) table) (c .before .before .before .before .before .before .before .before .put .ensures) (c .before .before .refresh .ensures))
 
 pub advance-spec : {M : Type 1} → statement M
-advance-spec = tie.close (tie.spec put-requires only-requires slice-aggregate-refresh refresh-requires same-length returns)
+advance-spec = tie.close
+    (tie.spec
+    put-requires (λ c κs. search needs) (λ c. search needs) refresh-requires (λ c. search needs) returns)

@@ -22,12 +22,6 @@ told-word : (c : tie.After-word-of) → c .word-of .result ≡ literal-word (c .
 told-word c = let s = c .before .before .before .before .before .before .before .before .before in
     c .word-of .ensures ∙ ap {A = ℤ} literal-word (toZ-ofZ w64 (s .args .literal) (s .fits .literal))
 
-slice-read-n : tie.Need-slice-read-n
-slice-read-n c = search needs
-
-size-requires : tie.Need-size-requires
-size-requires c κs = search needs
-
 returns : tie.Need-returns
 returns c = λ lim u. let s = c .before .before .before .before in
     let w = s .args .area .now in
@@ -42,18 +36,6 @@ returns-2 c = λ lim u. let s = c .before .before .before .before .before in
     let had = counted (s .args .counters) in
     give-high lim w had u l (omega (arith, told-size (c .before .before), c .if2 .taken))
 
-sub-if3 : tie.Need-sub-if3
-sub-if3 c = search needs
-
-add-if3 : tie.Need-add-if3
-add-if3 c = search needs
-
-mul-if3 : tie.Need-mul-if3
-mul-if3 c = search needs
-
-slice-read-if3 : tie.Need-slice-read-if3
-slice-read-if3 c = search needs
-
 returns-3 : tie.Need-returns-3
 returns-3 c = λ lim u. let s = c .before .before .before .before .before .before .before in
     let w = s .args .area .now in
@@ -62,12 +44,6 @@ returns-3 c = λ lim u. let s = c .before .before .before .before .before .befor
     let e = told-size (c .before .before .before .before) in
     give-taken lim w had u l (omega (arith, e, c .before .before .before .if1 .left)) (omega (arith, e, c .before .before .if2 .left))
     (λ z. c .if3 .taken (ap {A = ℕ} (value-at w (atoms-of w)) e ∙ z))
-
-slice-read-count : tie.Need-slice-read-count
-slice-read-count c = search needs
-
-word-of-requires : tie.Need-word-of-requires
-word-of-requires c κs = search needs
 
 advance-requires : tie.Need-advance-requires
 advance-requires c κs = let s = c .before .before .before .before .before .before .before .before .before .before .before in
@@ -82,12 +58,6 @@ advance-requires c κs = let s = c .before .before .before .before .before .befo
       subst (λ x. Advanceable (s .pre .0) w (atoms-of w) (sentences-of w) (had .length-is) (had .level-is) x (had .level-is)) (sym (told-word (c .before .before)))
           (give-advanceable (s .pre .0) w had (s .pre .1) l low high (ap {A = ℕ} (value-at w (atoms-of w)) (sym e) ∙ c .before .before .before .before .if3 .left)),
     )
-
-add-t20 : tie.Need-add-t20
-add-t20 c = search needs
-
-same-length : tie.Need-same-length
-same-length c = search needs
 
 returns-4 : tie.Need-returns-4
 returns-4 c = λ lim u. let s = c .before .before .before .before .before .before .before .before .before .before .before .before .before .before in
@@ -109,18 +79,5 @@ pub give-whole-spec : {M : Type 1} → statement M
 give-whole-spec =
     tie.close
     (tie.spec
-    slice-read-n
-    size-requires
-    returns
-    returns-2
-    sub-if3
-    add-if3
-    mul-if3
-    slice-read-if3
-    returns-3
-    slice-read-count
-    word-of-requires
-    advance-requires
-    add-t20
-    same-length
-    returns-4)
+    (λ c. search needs) (λ c κs. search needs) returns returns-2 (λ c. search needs) (λ c. search needs) (λ c. search needs) (λ c. search needs)
+    returns-3 (λ c. search needs) (λ c κs. search needs) advance-requires (λ c. search needs) (λ c. search needs) returns-4)

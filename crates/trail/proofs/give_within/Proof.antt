@@ -10,20 +10,11 @@ use borrow.Author.Needs.{needs}
 use Rattle.trail.proofs.give_within.Statement.{statement}
 use Rattle.trail.proofs.give_within.Tie as tie
 
-is-whole-requires : tie.Need-is-whole-requires
-is-whole-requires c κs = search needs
-
-same-length : tie.Need-same-length
-same-length c = search needs
-
 returns : tie.Need-returns
 returns c = let s = c .before .before .before .before in acts-broken (s .args .lim) (s .args .area .now) (counted (s .args .counters)) (give (s .args .literal)) (paper (refused 9 0)) (denied (c .before .is-whole .ensures) (c .if1 .taken)) refl
 
 give-whole-requires : tie.Need-give-whole-requires
 give-whole-requires c κs = let s = c .before .before .before .before .before in (s .args .lim, record { fitting = s .pre; whole = granted (c .before .before .is-whole .ensures) (c .before .if1 .left) })
-
-same-length-2 : tie.Need-same-length-2
-same-length-2 c = search needs
 
 returns-2 : tie.Need-returns-2
 returns-2 c = let s = c .before .before .before .before .before .before .before .before in
@@ -35,4 +26,5 @@ returns-2 c = let s = c .before .before .before .before .before .before .before 
 pub give-within-spec : {M : Type 1} → statement M
 give-within-spec =
     tie.close
-    (tie.spec is-whole-requires same-length returns give-whole-requires same-length-2 returns-2)
+    (tie.spec
+    (λ c κs. search needs) (λ c. search needs) returns give-whole-requires (λ c. search needs) returns-2)

@@ -21,24 +21,14 @@ natural-word : (l : ℤ) (a : ℕ) → a ≡ atom l → is-negative l ≡ false 
 natural-word (pos x) a e h = omega arith
 natural-word (negsuc x) a e h = cc
 
-negative-requires : tie.Need-negative-requires
-negative-requires c κs = search needs
-
-mul-result : tie.Need-mul-result
-mul-result c = search needs
-
-add-result : tie.Need-add-result
-add-result c = search needs
-
 returns : tie.Need-returns
 returns c = let s = c .before .before in negative-word (s .args .literal) (s .args .size) (s .pre .0) (sym (ap {A = ℤ} is-negative (toZ-ofZ w64 (s .args .literal) (s .fits .literal))) ∙ sym (c .before .negative .ensures) ∙ c .if1 .taken)
-
-mul-result-2 : tie.Need-mul-result-2
-mul-result-2 c = search needs
 
 returns-2 : tie.Need-returns-2
 returns-2 c = let s = c .before .before in natural-word (s .args .literal) (s .args .size) (s .pre .0) (sym (ap {A = ℤ} is-negative (toZ-ofZ w64 (s .args .literal) (s .fits .literal))) ∙ sym (c .before .negative .ensures) ∙ c .if1 .left)
 
 pub word-of-spec : {M : Type 1} → statement M
 word-of-spec =
-    tie.close (tie.spec negative-requires mul-result add-result returns mul-result-2 returns-2)
+    tie.close
+    (tie.spec
+    (λ c κs. search needs) (λ c. search needs) (λ c. search needs) returns (λ c. search needs) returns-2)

@@ -8,9 +8,6 @@ use Rattle.trail_check.proofs.header_ok.Tie as tie
 returns : tie.Need-returns
 returns c = told-no (λ h. omega arith)
 
-shared-slice-read-h : tie.Need-shared-slice-read-h
-shared-slice-read-h c = search needs
-
 returns-2 : tie.Need-returns-2
 returns-2 c = told-no (λ h. omega arith)
 
@@ -19,15 +16,6 @@ returns-3 c = told-no (λ h. omega arith)
 
 returns-4 : tie.Need-returns-4
 returns-4 c = told-no (λ h. omega arith)
-
-mul-if5 : tie.Need-mul-if5
-mul-if5 c = search needs
-
-mul-if5-2 : tie.Need-mul-if5-2
-mul-if5-2 c = search needs
-
-add-if5 : tie.Need-add-if5
-add-if5 c = search needs
 
 returns-5 : tie.Need-returns-5
 returns-5 c = told-no (λ h. omega arith)
@@ -51,17 +39,5 @@ pub header-ok-spec : {M : Type 1} → statement M
 header-ok-spec =
     tie.close
     (tie.spec
-    returns
-    shared-slice-read-h
-    returns-2
-    returns-3
-    returns-4
-    mul-if5
-    mul-if5-2
-    add-if5
-    returns-5
-    returns-6
-    returns-7
-    returns-8
-    returns-9
-    returns-10)
+    returns (λ c. search needs) returns-2 returns-3 returns-4 (λ c. search needs) (λ c. search needs) (λ c. search needs) returns-5 returns-6
+    returns-7 returns-8 returns-9 returns-10)

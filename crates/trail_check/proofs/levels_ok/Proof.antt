@@ -20,26 +20,8 @@ abbrev μ-loop : tie.MeasureT-loop
 loop-holds : tie.Need-loop-holds Inv-loop μ-loop
 loop-holds c = (omega arith, (λ h. h), λ h. h)
 
-sub-left : tie.Need-sub-left Inv-loop μ-loop
-sub-left c = search needs
-
-mul-g : tie.Need-mul-g Inv-loop μ-loop
-mul-g c = search needs
-
-add-g : tie.Need-add-g Inv-loop μ-loop
-add-g c = search needs
-
-mul-g-2 : tie.Need-mul-g-2 Inv-loop μ-loop
-mul-g-2 c = search needs
-
-shared-slice-read-g : tie.Need-shared-slice-read-g Inv-loop μ-loop
-shared-slice-read-g c = search needs
-
 returns : tie.Need-returns Inv-loop μ-loop
 returns c = told-no (λ h. let q = rising-row _ _ _ _ (omega arith) (c .before .before .before .loop .inv .2 h) .0 in omega arith)
-
-loop-less : tie.Need-loop-less Inv-loop μ-loop
-loop-less c = search needs
 
 loop-again : tie.Need-loop-again Inv-loop μ-loop
 loop-again c = (
@@ -55,15 +37,5 @@ pub levels-ok-spec : {M : Type 1} → statement M
 levels-ok-spec =
     tie.close
     (tie.spec
-    Inv-loop
-    μ-loop
-    loop-holds
-    sub-left
-    mul-g
-    add-g
-    mul-g-2
-    shared-slice-read-g
-    returns
-    loop-less
-    loop-again
-    returns-2)
+    Inv-loop μ-loop loop-holds (λ c. search needs) (λ c. search needs) (λ c. search needs) (λ c. search needs) (λ c. search needs) returns
+    (λ c. search needs) loop-again returns-2)

@@ -17,17 +17,8 @@ abbrev μ-loop : tie.MeasureT-loop
 loop-holds : tie.Need-loop-holds Inv-loop μ-loop
 loop-holds c = (omega arith, below-none _)
 
-place-ok-requires : tie.Need-place-ok-requires Inv-loop μ-loop
-place-ok-requires c κs = search needs
-
 returns : tie.Need-returns Inv-loop μ-loop
 returns c = told-no (λ h. denied (c .before .place-ok .ensures) (c .if1 .taken) (h _ (omega arith)))
-
-add-i : tie.Need-add-i Inv-loop μ-loop
-add-i c = search needs
-
-loop-less : tie.Need-loop-less Inv-loop μ-loop
-loop-less c = search needs
 
 loop-again : tie.Need-loop-again Inv-loop μ-loop
 loop-again c = (omega arith, below-more _ _ (c .before .before .before .loop .inv .1) (granted (c .before .place-ok .ensures) (c .if1 .left)))
@@ -39,12 +30,4 @@ pub places-ok-spec : {M : Type 1} → statement M
 places-ok-spec =
     tie.close
     (tie.spec
-    Inv-loop
-    μ-loop
-    loop-holds
-    place-ok-requires
-    returns
-    add-i
-    loop-less
-    loop-again
-    returns-2)
+    Inv-loop μ-loop loop-holds (λ c κs. search needs) returns (λ c. search needs) (λ c. search needs) loop-again returns-2)

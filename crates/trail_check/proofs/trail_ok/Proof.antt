@@ -5,32 +5,17 @@ use Rattle.trail_check.proofs.Agreement.{trail-by-places, value-of-ok, 
 use Rattle.trail_check.proofs.trail_ok.Statement.{statement}
 use Rattle.trail_check.proofs.trail_ok.Tie as tie
 
-front-ok-requires : tie.Need-front-ok-requires
-front-ok-requires c κs = search needs
-
 returns : tie.Need-returns
 returns c = told-no (λ h. denied (c .before .front-ok .ensures) (c .if1 .taken) (h .front))
-
-values-ok-requires : tie.Need-values-ok-requires
-values-ok-requires c κs = search needs
 
 returns-2 : tie.Need-returns-2
 returns-2 c = told-no (λ h. denied (c .before .values-ok .ensures) (c .if2 .taken) (value-of-ok _ _ _ _ h))
 
-places-ok-requires : tie.Need-places-ok-requires
-places-ok-requires c κs = search needs
-
 returns-3 : tie.Need-returns-3
 returns-3 c = told-no (λ h. denied (c .before .places-ok .ensures) (c .if3 .taken) (place-of-ok _ _ _ _ h))
 
-levels-ok-requires : tie.Need-levels-ok-requires
-levels-ok-requires c κs = search needs
-
 returns-4 : tie.Need-returns-4
 returns-4 c = told-no (λ h. denied (c .before .levels-ok .ensures) (c .if4 .taken) (h .rising))
-
-rest-ok-requires : tie.Need-rest-ok-requires
-rest-ok-requires c κs = search needs
 
 returns-5 : tie.Need-returns-5
 returns-5 c = told-no (λ h. denied (c .before .rest-ok .ensures) (c .if5 .taken) (rest-of-ok _ _ _ _ h))
@@ -48,14 +33,5 @@ pub trail-ok-spec : {M : Type 1} → statement M
 trail-ok-spec =
     tie.close
     (tie.spec
-    front-ok-requires
-    returns
-    values-ok-requires
-    returns-2
-    places-ok-requires
-    returns-3
-    levels-ok-requires
-    returns-4
-    rest-ok-requires
-    returns-5
-    returns-6)
+    (λ c κs. search needs) returns (λ c κs. search needs) returns-2 (λ c κs. search needs) returns-3 (λ c κs. search needs) returns-4
+    (λ c κs. search needs) returns-5 returns-6)

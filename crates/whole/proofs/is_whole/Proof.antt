@@ -21,17 +21,8 @@ trail-right c = granted (c .before .trail-ok .ensures) (c .if2 .left)
 places : (c : tie.Else3) → PlacesOk (c .before .before .before .before .before .before .before .before .before .args .lim) (c .before .before .before .before .before .before .before .before .before .args .area .now) (atoms-of (c .before .before .before .before .before .before .before .before .before .args .area .now)) (sentences-of (c .before .before .before .before .before .before .before .before .before .args .area .now))
 places c = granted (c .before .places-ok .ensures) (c .if3 .left)
 
-header-ok-requires : tie.Need-header-ok-requires
-header-ok-requires c κs = search needs
-
 returns : tie.Need-returns
 returns c = told-no (λ h. denied (c .before .header-ok .ensures) (c .if1 .taken) (parts _ _ _ _ h .header))
-
-shared-slice-read-n : tie.Need-shared-slice-read-n
-shared-slice-read-n c = omega (arith, header (c .before) .atoms-low, header (c .before) .records)
-
-shared-slice-read-count : tie.Need-shared-slice-read-count
-shared-slice-read-count c = omega (arith, header (c .before .before) .atoms-low, header (c .before .before) .records)
 
 trail-ok-requires : tie.Need-trail-ok-requires
 trail-ok-requires c κs = let h = header (c .before .before) in (h .atoms-low, omega (arith, h .atoms-high, c .before .before .before .before .before .pre .atoms), omega (arith, h .records), h .few)
@@ -81,15 +72,6 @@ pub is-whole-spec : {M : Type 1} → statement M
 is-whole-spec =
     tie.close
     (tie.spec
-    header-ok-requires
-    returns
-    shared-slice-read-n
-    shared-slice-read-count
-    trail-ok-requires
-    returns-2
-    places-ok-requires
-    returns-3
-    sentences-ok-requires
-    returns-4
-    reasons-ok-requires
-    returns-5)
+    (λ c κs. search needs) returns (λ c. omega (arith, header (c .before) .atoms-low, header (c .before) .records))
+    (λ c. omega (arith, header (c .before .before) .atoms-low, header (c .before .before) .records)) trail-ok-requires returns-2 places-ok-requires
+    returns-3 sentences-ok-requires returns-4 reasons-ok-requires returns-5)

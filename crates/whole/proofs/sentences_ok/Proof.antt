@@ -23,20 +23,8 @@ own-inside c = inside (c .before .before .before .pre) (c .before .loop .s) (c .
 loop-holds : tie.Need-loop-holds Inv-loop μ-loop
 loop-holds c = none-passed (c .before .pre)
 
-mul-base : tie.Need-mul-base Inv-loop μ-loop
-mul-base c = omega (arith, own-inside c)
-
-mul-base-2 : tie.Need-mul-base-2 Inv-loop μ-loop
-mul-base-2 c = omega (arith, own-inside c)
-
-add-base : tie.Need-add-base Inv-loop μ-loop
-add-base c = omega (arith, own-inside c)
-
 slice-aggregate-sentence-ok : tie.Need-slice-aggregate-sentence-ok Inv-loop μ-loop
 slice-aggregate-sentence-ok c = sym (c .before .before .loop .inv .stamps .size)
-
-cast-sentence-ok : tie.Need-cast-sentence-ok Inv-loop μ-loop
-cast-sentence-ok c = search needs
 
 sentence-ok-requires : tie.Need-sentence-ok-requires Inv-loop μ-loop
 sentence-ok-requires c κs = checkable (c .before .before .before .before .pre) (c .before .before .loop .s) (c .before .loop-test .taken) _ (c .before .before .loop .inv .stamps)
@@ -50,12 +38,6 @@ matching-requires c κs = ready (c .before .before .before .before .before .befo
 returns-2 : tie.Need-returns-2 Inv-loop μ-loop
 returns-2 c = matching-wrong (c .before .before .before .before .before .before .before .before .before .pre) (c .before .before .before .before .before .before .before .loop .s) (c .before .before .before .before .before .before .loop-test .taken) (c .before .matching .ensures) (c .if2 .taken)
 
-add-s : tie.Need-add-s Inv-loop μ-loop
-add-s c = search needs
-
-loop-less : tie.Need-loop-less Inv-loop μ-loop
-loop-less c = search needs
-
 loop-again : tie.Need-loop-again Inv-loop μ-loop
 loop-again c = one-passed (c .before .before .before .before .before .before .before .before .before .pre) (c .before .before .before .before .before .before .before .loop .s) (c .before .before .before .before .before .before .loop-test .taken) _ _ (c .before .before .before .before .before .before .before .loop .inv) (c .before .before .before .before .sentence-ok .ensures .stamps) (granted (c .before .before .before .before .sentence-ok .ensures .tells) (c .before .before .if1 .left)) (c .before .matching .ensures) (c .if2 .left)
 
@@ -66,19 +48,6 @@ pub sentences-ok-spec : {M : Type 1} → statement M
 sentences-ok-spec =
     tie.close
     (tie.spec
-    Inv-loop
-    μ-loop
-    loop-holds
-    mul-base
-    mul-base-2
-    add-base
-    slice-aggregate-sentence-ok
-    cast-sentence-ok
-    sentence-ok-requires
-    returns
-    matching-requires
-    returns-2
-    add-s
-    loop-less
-    loop-again
-    returns-3)
+    Inv-loop μ-loop loop-holds (λ c. omega (arith, own-inside c)) (λ c. omega (arith, own-inside c)) (λ c. omega (arith, own-inside c))
+    slice-aggregate-sentence-ok (λ c. search needs) sentence-ok-requires returns matching-requires returns-2 (λ c. search needs) (λ c. search needs)
+    loop-again returns-3)

@@ -9,4 +9,6 @@ returns-2 : tie.Need-returns-2
 returns-2 c = rw (c .if1 .left)
 
 pub keep-spec : {M : Type 1} → statement M
-keep-spec = tie.close (tie.spec returns returns-2)
+keep-spec = tie.close
+    (tie.spec
+    returns returns-2)

@@ -16,4 +16,6 @@ returns-4 : tie.Need-returns-4
 returns-4 c = rw (c .before .if1 .left) (omega arith)
 
 pub nearest-spec : {M : Type 1} → statement M
-nearest-spec = tie.close (tie.spec returns returns-2 returns-3 returns-4)
+nearest-spec = tie.close
+    (tie.spec
+    returns returns-2 returns-3 returns-4)

@@ -4,9 +4,6 @@ use borrow.Author.Needs.{needs}
 use Rattle.sentence.proofs.steps.reach.Statement.{statement}
 use Rattle.sentence.proofs.steps.reach.Tie as tie
 
-furthest-requires : tie.Need-furthest-requires
-furthest-requires c κs = search needs
-
 returns : tie.Need-returns
 returns c = rw (eq-eqb _ _ (c .before .if1 .taken)) (c .furthest .ensures)
 
@@ -17,4 +14,6 @@ returns-3 : tie.Need-returns-3
 returns-3 c = rw (ne-eqb _ _ (c .before .if1 .left), ne-eqb _ _ (c .if2 .left))
 
 pub reach-spec : {M : Type 1} → statement M
-reach-spec = tie.close (tie.spec furthest-requires returns returns-2 returns-3)
+reach-spec = tie.close
+    (tie.spec
+    (λ c κs. search needs) returns returns-2 returns-3)

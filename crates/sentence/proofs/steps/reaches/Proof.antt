@@ -4,12 +4,6 @@ use borrow.Author.Needs.{needs}
 use Rattle.sentence.proofs.steps.reaches.Statement.{statement}
 use Rattle.sentence.proofs.steps.reaches.Tie as tie
 
-furthest-requires : tie.Need-furthest-requires
-furthest-requires c κs = search needs
-
-furthest-requires-2 : tie.Need-furthest-requires-2
-furthest-requires-2 c κs = search needs
-
 returns : tie.Need-returns
 returns c = record { least-is = rw (eq-eqb _ _ (c .before .before .if1 .taken)) (c .before .furthest .ensures); greatest-is = rw (eq-eqb _ _ (c .before .before .if1 .taken)) (c .furthest2 .ensures) }
 
@@ -21,4 +15,6 @@ returns-3 c = record { least-is = rw (ne-eqb _ _ (c .before .if1 .left), ne-eqb 
 
 pub reaches-spec : {M : Type 1} → statement M
 reaches-spec =
-    tie.close (tie.spec furthest-requires furthest-requires-2 returns returns-2 returns-3)
+    tie.close
+    (tie.spec
+    (λ c κs. search needs) (λ c κs. search needs) returns returns-2 returns-3)

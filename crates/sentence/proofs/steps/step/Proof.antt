@@ -6,17 +6,11 @@ use Rattle.sentence.specs.Room.{Steps}
 use Rattle.sentence.proofs.steps.step.Statement.{statement}
 use Rattle.sentence.proofs.steps.step.Tie as tie
 
-enum-told : tie.Need-enum-told
-enum-told c = search needs
-
 plus-requires : tie.Need-plus-requires
 plus-requires c κs = subst (λ (k : Kind). Steps k (c .before .before .args .least) (c .before .before .args .low)) (c .enum-told .given .1) (c .before .before .pre .0)
 
 plus-requires-2 : tie.Need-plus-requires-2
 plus-requires-2 c κs = subst (λ (k : Kind). Steps k (c .before .before .before .args .greatest) (c .before .before .before .args .high)) (c .before .enum-told .given .1) (c .before .before .before .pre .1)
-
-enum-told-2 : tie.Need-enum-told-2
-enum-told-2 c = search needs
 
 times-requires : tie.Need-times-requires
 times-requires c κs = subst (λ (k : Kind). Steps k (c .before .before .args .least) (c .before .before .args .low)) (c .enum-told2 .given .1) (c .before .before .pre .0)
@@ -24,32 +18,11 @@ times-requires c κs = subst (λ (k : Kind). Steps k (c .before .before .args .l
 times-requires-2 : tie.Need-times-requires-2
 times-requires-2 c κs = subst (λ (k : Kind). Steps k (c .before .before .before .args .greatest) (c .before .before .before .args .high)) (c .before .enum-told2 .given .1) (c .before .before .before .pre .1)
 
-enum-told-3 : tie.Need-enum-told-3
-enum-told-3 c = search needs
-
 plus-requires-3 : tie.Need-plus-requires-3
 plus-requires-3 c κs = subst (λ (k : Kind). Steps k (c .before .before .args .least) (c .before .before .args .low)) (c .enum-told3 .given .1) (c .before .before .pre .0)
 
 plus-requires-4 : tie.Need-plus-requires-4
 plus-requires-4 c κs = subst (λ (k : Kind). Steps k (c .before .before .before .args .greatest) (c .before .before .before .args .high)) (c .before .enum-told3 .given .1) (c .before .before .before .pre .1)
-
-enum-told-4 : tie.Need-enum-told-4
-enum-told-4 c = search needs
-
-furthest-requires : tie.Need-furthest-requires
-furthest-requires c κs = search needs
-
-furthest-requires-2 : tie.Need-furthest-requires-2
-furthest-requires-2 c κs = search needs
-
-enum-told-5 : tie.Need-enum-told-5
-enum-told-5 c = search needs
-
-furthest-requires-3 : tie.Need-furthest-requires-3
-furthest-requires-3 c κs = search needs
-
-furthest-requires-4 : tie.Need-furthest-requires-4
-furthest-requires-4 c κs = search needs
 
 returns : tie.Need-returns
 returns c = record { least-is = rw (c .before .before .enum-told .given .1) (c .before .plus .ensures); greatest-is = rw (c .before .before .enum-told .given .1) (c .plus2 .ensures) }
@@ -70,23 +43,6 @@ pub step-spec : {M : Type 1} → statement M
 step-spec =
     tie.close
     (tie.spec
-    enum-told
-    plus-requires
-    plus-requires-2
-    enum-told-2
-    times-requires
-    times-requires-2
-    enum-told-3
-    plus-requires-3
-    plus-requires-4
-    enum-told-4
-    furthest-requires
-    furthest-requires-2
-    enum-told-5
-    furthest-requires-3
-    furthest-requires-4
-    returns
-    returns-2
-    returns-3
-    returns-4
-    returns-5)
+    (λ c. search needs) plus-requires plus-requires-2 (λ c. search needs) times-requires times-requires-2 (λ c. search needs) plus-requires-3
+    plus-requires-4 (λ c. search needs) (λ c κs. search needs) (λ c κs. search needs) (λ c. search needs) (λ c κs. search needs)
+    (λ c κs. search needs) returns returns-2 returns-3 returns-4 returns-5)

@@ -8,44 +8,14 @@ use Rattle.sentence.specs.Room.{Turns}
 use Rattle.sentence.proofs.steps.turn.Statement.{statement}
 use Rattle.sentence.proofs.steps.turn.Tie as tie
 
-enum-told : tie.Need-enum-told
-enum-told c = search needs
-
 shift-requires : tie.Need-shift-requires
 shift-requires c κs = subst (λ (k : Kind). Turns k (c .before .before .args .up) (c .before .before .args .e) (c .before .before .args .w)) (c .enum-told .given .1) (c .before .before .pre)
-
-keep-requires : tie.Need-keep-requires
-keep-requires c κs = search needs
-
-enum-told-2 : tie.Need-enum-told-2
-enum-told-2 c = search needs
 
 scale-requires : tie.Need-scale-requires
 scale-requires c κs = subst (λ (k : Kind). Turns k (c .before .before .args .up) (c .before .before .args .e) (c .before .before .args .w)) (c .enum-told2 .given .1) (c .before .before .pre)
 
-keep-requires-2 : tie.Need-keep-requires-2
-keep-requires-2 c κs = search needs
-
-enum-told-3 : tie.Need-enum-told-3
-enum-told-3 c = search needs
-
 shift-requires-2 : tie.Need-shift-requires-2
 shift-requires-2 c κs = subst (λ (k : Kind). Turns k (c .before .before .args .up) (c .before .before .args .e) (c .before .before .args .w)) (c .enum-told3 .given .1) (c .before .before .pre)
-
-keep-requires-3 : tie.Need-keep-requires-3
-keep-requires-3 c κs = search needs
-
-enum-told-4 : tie.Need-enum-told-4
-enum-told-4 c = search needs
-
-keep-requires-4 : tie.Need-keep-requires-4
-keep-requires-4 c κs = search needs
-
-enum-told-5 : tie.Need-enum-told-5
-enum-told-5 c = search needs
-
-keep-requires-5 : tie.Need-keep-requires-5
-keep-requires-5 c κs = search needs
 
 returns : tie.Need-returns
 returns c = rw (c .before .before .enum-told .given .1) (ap not (c .keep .ensures ∙ ap (keeps (c .before .before .before .before .args .up) (c .before .before .before .before .args .limit)) (c .before .shift .ensures)))
@@ -72,23 +42,6 @@ pub turn-spec : {M : Type 1} → statement M
 turn-spec =
     tie.close
     (tie.spec
-    enum-told
-    shift-requires
-    keep-requires
-    enum-told-2
-    scale-requires
-    keep-requires-2
-    enum-told-3
-    shift-requires-2
-    keep-requires-3
-    enum-told-4
-    keep-requires-4
-    enum-told-5
-    keep-requires-5
-    returns
-    returns-2
-    returns-3
-    returns-4
-    returns-5
-    returns-6
-    returns-7)
+    (λ c. search needs) shift-requires (λ c κs. search needs) (λ c. search needs) scale-requires (λ c κs. search needs) (λ c. search needs)
+    shift-requires-2 (λ c κs. search needs) (λ c. search needs) (λ c κs. search needs) (λ c. search needs) (λ c κs. search needs) returns returns-2
+    returns-3 returns-4 returns-5 returns-6 returns-7)

@@ -5,17 +5,8 @@ use borrow.Author.Needs.{needs}
 use Rattle.sentence.proofs.steps.wanted.Statement.{statement}
 use Rattle.sentence.proofs.steps.wanted.Tie as tie
 
-furthest-requires : tie.Need-furthest-requires
-furthest-requires c κs = search needs
-
 returns : tie.Need-returns
 returns c = rw (eq-eqb _ _ (sym (c .before .furthest .ensures) ∙ c .if1 .taken))
-
-add-result : tie.Need-add-result
-add-result c = search needs
-
-sub-result : tie.Need-sub-result
-sub-result c = search needs
 
 returns-2 : tie.Need-returns-2
 returns-2 c = rw (ne-eqb _ _ (λ e. c .before .if1 .left (c .before .before .furthest .ensures ∙ e)), eq-eqb _ _ (c .if2 .taken))
@@ -25,4 +16,6 @@ returns-3 c = rw (ne-eqb _ _ (λ e. c .before .if1 .left (c .before .before .fur
 
 pub wanted-spec : {M : Type 1} → statement M
 wanted-spec =
-    tie.close (tie.spec furthest-requires returns add-result sub-result returns-2 returns-3)
+    tie.close
+    (tie.spec
+    (λ c κs. search needs) returns (λ c. search needs) (λ c. search needs) returns-2 returns-3)
