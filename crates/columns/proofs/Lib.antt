@@ -1,5 +1,4 @@
 pub mod Clauses
-pub mod Marks
 pub mod Paired
 pub mod Written
 pub mod Codes

@@ -80,7 +80,7 @@ fn load_short(
     ensures { λ r. ⌜ r ≡ load-told (load-answer base words atoms (columns (now (heads .entry)) (now (kinds .entry)) (now (sides .entry)) (now (bounds .entry)) (now (counts .entry)) (now (weights .entry)) (now (literals .entry)))) 0 ⌝ }
 {
     let lim = Limits::base();
-    let refused = columns::refusal(
+    let refused = load_check::refusal(
         words,
         lim,
         atoms,

@@ -155,7 +155,7 @@ pub fn load_within(
     ensures { λ r. ⌜ Loads lim (now (area .entry)) (now (area .exit)) (atoms .0) (columns (now (heads .entry)) (now (kinds .entry)) (now (sides .entry)) (now (bounds .entry)) (now (counts .entry)) (now (weights .entry)) (now (literals .entry))) r ⌝ }
 {
     let words = area.len();
-    let answer = columns::refusal(
+    let answer = load_check::refusal(
         words,
         lim,
         atoms.0,
