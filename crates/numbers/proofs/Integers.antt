@@ -106,6 +106,19 @@ pub →leℤ : (a b : ℤ) → positive a + negative b ≤ positive b + negative
 
 pub ruleset ints = (arith, leZ→, →leZ, not-leZ→, →not-leZ, same-parts, parts-same, leℤ→, →leℤ)
 
+-- ---- sizes
+
+-- one of the two parts is 0
+pub near : (z : ℤ) (m : ℕ) → positive z ≤ m + negative z → negative z ≤ m + positive z → natAbs z ≤ m
+near (pos n) m p q = omega arith
+near (negsuc n) m p q = omega arith
+
+pub sum-size : (a b : ℤ) → natAbs (a +ℤ b) ≤ natAbs a + natAbs b
+sum-size a b = let p = sum-parts a b in near (a +ℤ b) (natAbs a + natAbs b) (omega (ints, size-parts a, size-parts b)) (omega (ints, size-parts a, size-parts b))
+
+pub neg-size : (a : ℤ) → natAbs (negℤ a) ≤ natAbs a
+neg-size a = near (negℤ a) (natAbs a) (omega (ints, size-parts a, neg-parts a)) (omega (ints, size-parts a, neg-parts a))
+
 -- ---- the product is associative, which the library lacks
 
 neg-left : (a b : ℤ) → negℤ a *ℤ b ≡ negℤ (a *ℤ b)
@@ -124,8 +137,7 @@ assoc₁ a b (negsuc c) = neg-right (pos (a * b)) (pos (suc c)) ∙ ap negℤ (a
 
 assoc₂ : (a : ℕ) (b c : ℤ) → (pos a *ℤ b) *ℤ c ≡ pos a *ℤ (b *ℤ c)
 assoc₂ a (pos b) c = assoc₁ a b c
-assoc₂ a (negsuc b) c =
-    neg-left (pos (a * suc b)) c ∙ ap negℤ (assoc₁ a (suc b) c) ∙ sym (neg-right (pos a) (pos (suc b) *ℤ c))
+assoc₂ a (negsuc b) c = neg-left (pos (a * suc b)) c ∙ ap negℤ (assoc₁ a (suc b) c) ∙ sym (neg-right (pos a) (pos (suc b) *ℤ c))
     ∙ ap (λ x. pos a *ℤ x) (sym (neg-left (pos (suc b)) c))
 
 pub *ℤ-assoc : (a b c : ℤ) → (a *ℤ b) *ℤ c ≡ a *ℤ (b *ℤ c)

@@ -19,11 +19,10 @@ cases a zero = inl zero-le
 cases zero (suc b) = inr (suc-le-suc zero-le)
 cases (suc a) (suc b) = ⊎-elim (λ p. inl (suc-le-suc p)) (λ q. inr (suc-le-suc q)) (cases a b)
 
-same-test : (p q : Bool) → (T p → T q) → (T q → T p) → p ≡ q
-same-test true true f g = refl
-same-test true false f g = absurd (f tt)
-same-test false true f g = absurd (g tt)
-same-test false false f g = refl
+-- two tests that hold together are one
+pub same-test : (p q : Bool) → (T p → T q) → (T q → T p) → p ≡ q
+same-test true q f g = elim q as (λ q. T q → true ≡ q) [ true ↦ λ t. refl | false ↦ absurd ] (f tt)
+same-test false q f g = elim q as (λ q. (T q → ⊥) → false ≡ q) [ true ↦ λ n. absurd (n tt) | false ↦ λ n. refl ] g
 
 -- ---- a − b, for two naturals
 
@@ -33,17 +32,14 @@ sub-ge a b h = rw (le-ltb a b h)
 pub sub-lt : (a b : ℕ) → a < b → subℕ a b ≡ negsuc (b - suc a)
 sub-lt a b h = rw (lt-ltb a b h)
 
-pub sub-eq : (a b c d : ℕ) → a + d ≡ c + b → subℕ a b ≡ subℕ c d
-sub-eq a b c d e = omega (ints, sub-parts a b, sub-parts c d)
-
-pub sub-add : (a b c d : ℕ) → subℕ a b +ℤ subℕ c d ≡ subℕ (a + c) (b + d)
-sub-add a b c d = omega (ints, sum-parts (subℕ a b) (subℕ c d), sub-parts a b, sub-parts c d, sub-parts (a + c) (b + d))
-
 -- ---- numbers
 
 pub unbias-parts : (w : ℕ) → positive (unbias w) + half ≡ negative (unbias w) + w
 unfolding unbias
 unbias-parts w = sub-parts w half
+
+pub one-from : (w : ℕ) → T (leZ (pos 1) (unbias w)) → half < w
+one-from w h = omega (ints, unbias-parts w)
 
 pub unbias-zero : unbias half ≡ pos 0
 unfolding unbias
@@ -76,19 +72,13 @@ unbias-of (negsuc n) h = let k : n < half = h in omega (ints, unbias-parts (half
 
 -- of any word
 pub bias-of : (w : ℕ) → bias (unbias w) ≡ w
-bias-of w = go (unbias w) (unbias-parts w)
-  where
-    go : (z : ℤ) → positive z + half ≡ negative z + w → bias z ≡ w
-    go (pos n) e = omega arith
-    go (negsuc n) e = omega arith
+bias-of w = elim (unbias w) as (λ z. positive z + half ≡ negative z + w → bias z ≡ w) [ pos n ↦ λ e. omega arith | negsuc n ↦ λ e. omega arith ] (unbias-parts w)
 
 pub unbias-one : (a b : ℕ) → unbias a ≡ unbias b → a ≡ b
 unbias-one a b e = sym (bias-of a) ∙ ap bias e ∙ bias-of b
 
 pub unbias-leb : (a b : ℕ) → leZ (unbias a) (unbias b) ≡ leb a b
-unbias-leb a b =
-    same-test (leZ (unbias a) (unbias b)) (leb a b)
-    (λ t. le→leb a b (omega (ints, unbias-parts a, unbias-parts b)))
+unbias-leb a b = same-test (leZ (unbias a) (unbias b)) (leb a b) (λ t. le→leb a b (omega (ints, unbias-parts a, unbias-parts b)))
     (λ t. let h : a ≤ b = leb→le a b t in omega (ints, unbias-parts a, unbias-parts b))
 
 -- ---- values
@@ -111,10 +101,7 @@ data Place (w : ℕ) : Type 0 where
   last : top ≤ w → Place w
 
 place : (w : ℕ) → Place w
-place w =
-    ⊎-elim
-    (λ (p : w ≤ 0). first (omega arith))
-    (λ (p : 0 < w). ⊎-elim (λ (q : top ≤ w). last q) (λ (q : w < top). between p q) (cases w top))
+place w = ⊎-elim (λ (p : w ≤ 0). first (omega arith)) (λ (p : 0 < w). ⊎-elim (λ (q : top ≤ w). last q) (λ (q : w < top). between p q) (cases w top))
     (cases 0 w)
 
 -- a value has a word of its own if it is below or above every number, or a number z with |z| < half
@@ -163,32 +150,18 @@ word-gt a b h k = go (place a) (place b)
 
 -- for any word b. Of any two words it fails exactly where top ≤ b < a: both are words of `above`
 pub word-leb : (a b : ℕ) → a ≤ top → leE (unword a) (unword b) ≡ leb a b
-word-leb a b h =
-    ⊎-elim
-    (λ (p : a ≤ b). word-le a b p ∙ sym (le-leb a b p))
-    (λ (p : b < a). word-gt a b p (omega arith) ∙ sym (lt-leb a b p))
-    (cases b a)
+word-leb a b h = ⊎-elim (λ (p : a ≤ b). word-le a b p ∙ sym (le-leb a b p)) (λ (p : b < a). word-gt a b p (omega arith) ∙ sym (lt-leb a b p)) (cases b a)
 
 -- of any two words
 pub unword-max : (a b : ℕ) → unword (max a b) ≡ greater (unword a) (unword b)
-unword-max a b =
-    ⊎-elim
-    (λ (p : a ≤ b). let e : max a b ≡ b = omega arith in rw (e, word-le a b p))
-    (λ (p : b < a). let e : max a b ≡ a = omega arith in ⊎-elim
-    (λ (q : top ≤ b). rw (e, unword-above a (omega arith), unword-above b q))
-    (λ (q : b < top). rw (e, word-gt a b p q))
-    (cases b top))
-    (cases b a)
+unword-max a b = ⊎-elim (λ (p : a ≤ b). let e : max a b ≡ b = omega arith in rw (e, word-le a b p))
+    (λ (p : b < a). let e : max a b ≡ a = omega arith in ⊎-elim (λ (q : top ≤ b). rw (e, unword-above a (omega arith), unword-above b q))
+    (λ (q : b < top). rw (e, word-gt a b p q)) (cases b top)) (cases b a)
 
 pub unword-min : (a b : ℕ) → unword (min a b) ≡ lesser (unword a) (unword b)
-unword-min a b =
-    ⊎-elim
-    (λ (p : a ≤ b). let e : min a b ≡ a = omega arith in rw (e, word-le a b p))
-    (λ (p : b < a). let e : min a b ≡ b = omega arith in ⊎-elim
-    (λ (q : top ≤ b). rw (e, unword-above a (omega arith), unword-above b q))
-    (λ (q : b < top). rw (e, word-gt a b p q))
-    (cases b top))
-    (cases b a)
+unword-min a b = ⊎-elim (λ (p : a ≤ b). let e : min a b ≡ a = omega arith in rw (e, word-le a b p))
+    (λ (p : b < a). let e : min a b ≡ b = omega arith in ⊎-elim (λ (q : top ≤ b). rw (e, unword-above a (omega arith), unword-above b q))
+    (λ (q : b < top). rw (e, word-gt a b p q)) (cases b top)) (cases b a)
 
 -- ---- literals
 
@@ -198,10 +171,7 @@ literal-even w e = rw e
 
 pub literal-odd : (w : ℕ) → 2 ≤ w → w % 2 ≡ 1 → literal-of w ≡ negsuc (w / 2 - 1)
 unfolding literal-of
-literal-odd w h e = rw e (opposite (w / 2) (omega arith))
-  where
-    opposite : (a : ℕ) → 1 ≤ a → negℤ (pos a) ≡ negsuc (a - 1)
-    opposite a l = omega (ints, neg-parts (pos a))
+literal-odd w h e = rw e (omega (ints, neg-parts (pos (w / 2))))
 
 pub literal-none : (w : ℕ) → w < 2 → literal-of w ≡ pos 0
 unfolding literal-of
@@ -218,18 +188,10 @@ literal-of-word (negsuc a) = literal-odd (2 * suc a + 1) (omega arith) (omega ar
 
 -- it is true of 0 too, and not of 1
 pub literal-word-of : (w : ℕ) → 2 ≤ w → literal-word (literal-of w) ≡ w
-literal-word-of w h =
-    ⊎-elim
-    (λ (e : w % 2 ≡ 0). rw (literal-even w e) (omega arith))
-    (λ (e : w % 2 ≡ 1). rw (literal-odd w h e) (omega arith))
-    (parity w)
+literal-word-of w h = ⊎-elim (λ (e : w % 2 ≡ 0). rw (literal-even w e) (omega arith)) (λ (e : w % 2 ≡ 1). rw (literal-odd w h e) (omega arith)) (parity w)
 
 pub literal-atom : (w : ℕ) → 2 ≤ w → natAbs (literal-of w) ≡ w / 2
-literal-atom w h =
-    ⊎-elim
-    (λ (e : w % 2 ≡ 0). rw (literal-even w e))
-    (λ (e : w % 2 ≡ 1). rw (literal-odd w h e) (omega arith))
-    (parity w)
+literal-atom w h = ⊎-elim (λ (e : w % 2 ≡ 0). rw (literal-even w e)) (λ (e : w % 2 ≡ 1). rw (literal-odd w h e) (omega arith)) (parity w)
 
 -- the opposite literal's word
 pub opposite-even : (w : ℕ) → 2 ≤ w → w % 2 ≡ 0 → literal-of (w + 1) ≡ negℤ (literal-of w)
