@@ -61,8 +61,7 @@ same-said (forced l) (forced m) = same l m
 -- ---- the rows
 
 abbrev pub tests : Example → List Bool
-tests x =
-    consistent (x .trail) ∷ admissible (x .sentence) ∷ leb 1 (x .sentence .head)
+tests x = consistent (x .trail) ∷ admissible (x .sentence) ∷ leb 1 (x .sentence .head)
     ∷ same-value (extreme down (rule-of (x .sentence)) (x .trail)) (x .least) ∷ same-value (extreme up (rule-of (x .sentence)) (x .trail)) (x .greatest)
     ∷ same-said (says (rule-of (x .sentence)) (x .trail)) (x .said) ∷ []
 

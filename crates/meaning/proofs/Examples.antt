@@ -27,5 +27,4 @@ right x h =
 
 -- the claim about the list
 pub examples-right : Each Right examples
-examples-right =
-    every-is (λ x. every (λ b. b) (tests x)) Right (λ x t. right x (every-is (λ b. b) T (λ b u. u) (tests x) t)) examples examples-pass
+examples-right = every-is (λ x. every (λ b. b) (tests x)) Right (λ x t. right x (every-is (λ b. b) T (λ b u. u) (tests x) t)) examples examples-pass

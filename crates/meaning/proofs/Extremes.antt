@@ -28,10 +28,8 @@ record Beyond {A : Type 0} (d : Direction) (k : Kind) (f g : A → Extended) (x 
 gather-further : {A : Type 0} (d : Direction) (k : Kind) (f g : A → Extended) (v w : Extended) (xs : List A) → Each (Beyond d k f g) xs → Proper k v → Proper k w → T (further d v w) → T (further d (gather k f v xs) (gather k g w xs))
 unfolding gather
 gather-further d k f g v w [] h p q o = o
-gather-further d k f g v w (x ∷ xs) h p q o =
-    gather-further d k f g (combine k v (f x)) (combine k w (g x)) xs (h .1)
-    (combine-proper k v (f x) p (h .0 .nearer))
-    (combine-proper k w (g x) q (h .0 .farther))
+gather-further d k f g v w (x ∷ xs) h p q o = gather-further d k f g (combine k v (f x)) (combine k w (g x)) xs (h .1)
+    (combine-proper k v (f x) p (h .0 .nearer)) (combine-proper k w (g x) q (h .0 .farther))
     (further-combine d k v w (f x) (g x) p q (h .0 .nearer) (h .0 .farther) o (h .0 .beyond))
 
 -- ---- one choice
@@ -53,25 +51,13 @@ choice up g (fixed b) = b
 choice down g (fixed b) = b
 
 choice-reaches : (d : Direction) (g : Bool → Extended) (s : Standing) → g (choice d g s) ≡ reach d g s
-choice-reaches up g free = go (leE (g true) (g false))
-  where
-    go : (c : Bool) → g (not c) ≡ cond c (g false) (g true)
-    go true = refl
-    go false = refl
-choice-reaches down g free = go (leE (g true) (g false))
-  where
-    go : (c : Bool) → g c ≡ cond c (g true) (g false)
-    go true = refl
-    go false = refl
+choice-reaches up g free = elim (leE (g true) (g false)) as (λ c. g (not c) ≡ cond c (g false) (g true)) [ true ↦ refl | false ↦ refl ]
+choice-reaches down g free = elim (leE (g true) (g false)) as (λ c. g c ≡ cond c (g true) (g false)) [ true ↦ refl | false ↦ refl ]
 choice-reaches up g (fixed b) = refl
 choice-reaches down g (fixed b) = refl
 
 choice-fixed : (d : Direction) (g : Bool → Extended) (s : Standing) (b : Bool) → s ≡ fixed b → choice d g s ≡ b
-choice-fixed d g s b e = rw e (at-fixed d)
-  where
-    at-fixed : (d : Direction) → choice d g (fixed b) ≡ b
-    at-fixed up = refl
-    at-fixed down = refl
+choice-fixed d g s b e = rw e (elim d as (λ d. choice d g (fixed b) ≡ b) [ down ↦ refl | up ↦ refl ])
 
 -- ---- the assignment that attains an extreme: each entry's atom as its reach has it, and any other as σ has it
 
@@ -86,11 +72,9 @@ module _ (k : Kind) (d : Direction) (t : List ℤ) (σ : Assignment) where
   attaining-keeps : (es : List Entry) → Agrees σ t → (a : ℕ) (b : Bool) → standing t a ≡ fixed b → attaining es a ≡ b
   unfolding attaining picked
   attaining-keeps [] g a b s = fixed-agrees σ t a b g s
-  attaining-keeps (e ∷ es) g a b s = go (eqb (place e) a) (λ q. eqb→eq (place e) a q) (attaining-keeps es g a b s)
-    where
-      go : (x : Bool) → (T x → place e ≡ a) → attaining es a ≡ b → cond x (picked e) (attaining es a) ≡ b
-      go true same ih = choice-fixed d (given k e) (standing t (place e)) b (ap (standing t) (same tt) ∙ s)
-      go false same ih = ih
+  attaining-keeps (e ∷ es) g a b s = elim (eqb (place e) a) as (λ x. (T x → place e ≡ a) → cond x (picked e) (attaining es a) ≡ b)
+      [ true ↦ λ same. choice-fixed d (given k e) (standing t (place e)) b (ap (standing t) (same tt) ∙ s) | false ↦ λ same. attaining-keeps es g a b s ]
+      (eqb→eq (place e) a)
 
   attaining-agrees : (es : List Entry) → Agrees σ t → Agrees (attaining es) t
   attaining-agrees es g = agrees-from σ (attaining es) t (λ a o. same a (on-fixed t a o)) g
@@ -119,8 +103,7 @@ module _ (d : Direction) (s : Sentence) (m : Merged) (t : List ℤ) (r : Represe
   unfolding extreme
   extreme-bounds σ g =
       let start : Extended = starting (s .kind) (m .constant) in
-      rw (value-gather s m r σ)
-      (gather-further d (s .kind) (contribution (s .kind) σ) (extreme-of (s .kind) d t) start start (m .entries)
+      rw (value-gather s m r σ) (gather-further d (s .kind) (contribution (s .kind) σ) (extreme-of (s .kind) d t) start start (m .entries)
       (each-map (λ e. T (weighable (s .kind) (e .weight))) (Beyond d (s .kind) (contribution (s .kind) σ) (extreme-of (s .kind) d t)) (m .entries) at-entry (r .weights))
       (starting-proper (s .kind) (m .constant)) (starting-proper (s .kind) (m .constant)) (further-refl d start))
     where
@@ -158,8 +141,7 @@ furthest-unique d s t v w f g = further-antisym d v w (half v w f g) (half w v g
 -- ---- what does not matter: an atom outside the set, under an assignment and on a trail
 
 pub value-outside : (s : Sentence) (m : Merged) → Represents s m → (σ : Assignment) (a : ℕ) (b : Bool) → Off a (m .entries) → value s (with-atom σ a b) ≡ value s σ
-value-outside s m r σ a b n =
-    value-gather s m r (with-atom σ a b)
+value-outside s m r σ a b n = value-gather s m r (with-atom σ a b)
     ∙ gather-same (s .kind) (contribution (s .kind) (with-atom σ a b)) (contribution (s .kind) σ) (starting (s .kind) (m .constant)) (m .entries)
     (each-map (λ e. ¬ (place e ≡ a)) (λ e. contribution (s .kind) (with-atom σ a b) e ≡ contribution (s .kind) σ e) (m .entries) (λ e h. ap (given (s .kind) e) (with-other σ a b (place e) h)) n)
     ∙ sym (value-gather s m r σ)

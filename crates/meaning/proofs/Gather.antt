@@ -1,7 +1,7 @@
 -- The fold of values in which the propagator computes. A value may go in first or last, since combining is associative and commutative;
 -- so folding over all entries, with the empty value for those that are not chosen, gives the aggregate of the chosen weights.
 use mathlib.Core.Path.{_≡_, refl, sym, _∙_, ap}
-use mathlib.Core.Bool.{Bool, true, false, not, cond}
+use mathlib.Core.Bool.{true, false, not, cond}
 use mathlib.Core.List.{List, [], _∷_}
 use Prim.Native.Nat.{ℕ, zero, suc, _<_}
 use native.Mathlib.Nat.{le-of-suc-le-suc, not-suc-le-zero}
@@ -42,11 +42,7 @@ module _ {A : Type 0} (k : Kind) where
 -- ---- the aggregate as a fold
 
 pub aggregate-next : (k : Kind) (w : ℤ) (ws : List ℤ) → aggregate k (w ∷ ws) ≡ combine k (at w) (aggregate k ws)
-aggregate-next sum w ws = refl
-aggregate-next product w ws = refl
-aggregate-next count w ws = refl
-aggregate-next maximum w ws = refl
-aggregate-next minimum w ws = refl
+aggregate-next k w ws = elim k [ sum ↦ refl | product ↦ refl | count ↦ refl | maximum ↦ refl | minimum ↦ refl ]
 
 -- what an entry contributes under an assignment
 abbrev pub contribution : Kind → Assignment → Entry → Extended
@@ -54,11 +50,9 @@ contribution k σ e = given k e (σ (place e))
 
 module _ (k : Kind) (σ : Assignment) where
   chosen-next : (e : Entry) (es : List Entry) → aggregate k (chosen σ (e ∷ es)) ≡ combine k (contribution k σ e) (aggregate k (chosen σ es))
-  chosen-next e es = go (holds σ (e .literal))
-    where
-      go : (b : Bool) → aggregate k (cond b (e .weight ∷ chosen σ es) (chosen σ es)) ≡ combine k (cond b (at (e .weight)) (empty k)) (aggregate k (chosen σ es))
-      go true = aggregate-next k (e .weight) (chosen σ es)
-      go false = sym (empty-combine k (aggregate k (chosen σ es)))
+  chosen-next e es =
+      elim (holds σ (e .literal)) as (λ b. aggregate k (cond b (e .weight ∷ chosen σ es) (chosen σ es)) ≡ combine k (cond b (at (e .weight)) (empty k)) (aggregate k (chosen σ es)))
+      [ true ↦ aggregate-next k (e .weight) (chosen σ es) | false ↦ sym (empty-combine k (aggregate k (chosen σ es))) ]
 
   pub gather-chosen : (v : Extended) (es : List Entry) → gather k (contribution k σ) v es ≡ combine k v (aggregate k (chosen σ es))
   unfolding gather
@@ -70,14 +64,10 @@ module _ (k : Kind) (σ : Assignment) where
 -- ---- the constant
 
 pub raised-zero : (v : Extended) → raised (pos 0) v ≡ v
-raised-zero below = refl
-raised-zero (at z) = ap at (+ℤ-idl z)
-raised-zero above = refl
+raised-zero v = elim v [ below ↦ refl | at z ↦ ap at (+ℤ-idl z) | above ↦ refl ]
 
 raised-combine : (c : ℤ) (v : Extended) → raised c v ≡ combine sum (at c) v
-raised-combine c below = refl
-raised-combine c (at z) = refl
-raised-combine c above = refl
+raised-combine c v = elim v [ below ↦ refl | at z ↦ refl | above ↦ refl ]
 
 -- a constant of 0 changes nothing, and a kind that has another starts its fold there
 pub raised-starting : (k : Kind) (c : ℤ) (v : Extended) → (T (not (mixes k)) → c ≡ pos 0) → raised c v ≡ combine k (starting k c) v

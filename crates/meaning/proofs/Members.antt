@@ -14,18 +14,11 @@ use Rattle.meaning.specs.Merge.{turned-by, turned-all, turned, joined, p
 -- ---- the test for one literal, and the entry that joins two of one
 
 pub same→eq : (l m : ℤ) → T (same l m) → l ≡ m
-same→eq l m t = go (leZ l m) (λ h. h) t
-  where
-    go : (b : Bool) → (T b → T (leZ l m)) → T (cond b (leZ m l) false) → l ≡ m
-    go true h t = let a : T (leZ l m) = h tt in omega ints
-    go false h t = absurd t
+same→eq l m = elim (leZ l m) as (λ b. (T b → T (leZ l m)) → T (cond b (leZ m l) false) → l ≡ m)
+    [ true ↦ λ h t. let a : T (leZ l m) = h tt in omega ints | false ↦ λ h t. absurd t ] (λ h. h)
 
 pub eq→same : (l m : ℤ) → l ≡ m → T (same l m)
-eq→same l m e = go (leZ l m) (omega ints) (omega ints)
-  where
-    go : (b : Bool) → T b → T (leZ m l) → T (cond b (leZ m l) false)
-    go true t u = u
-    go false t u = t
+eq→same l m e = elim (leZ l m) as (λ b. T b → T (leZ m l) → T (cond b (leZ m l) false)) [ true ↦ λ t u. u | false ↦ λ t u. t ] (omega ints) (omega ints)
 
 abbrev pub join : Kind → Entry → Entry → Entry
 join k x e = record { weight = joined k (x .weight) (e .weight); literal = x .literal }
@@ -43,8 +36,7 @@ module _ {A : Type 0} (P : A → Type 0) where
 
   -- where a test drops or keeps the head
   each-cond : (b : Bool) (x : A) (xs : List A) → P x → Each P xs → Each P (cond b xs (x ∷ xs))
-  each-cond true x xs p ps = ps
-  each-cond false x xs p ps = (p, ps)
+  each-cond b x xs p ps = elim b [ true ↦ ps | false ↦ (p, ps) ]
 
 -- ---- steps of the merge that drop entries, and the one that joins two
 
@@ -63,21 +55,14 @@ module _ (P : Entry → Type 0) where
   nonzero-each (e ∷ es) h = each-cond P (same (e .weight) (pos 0)) e (nonzero es) (h .0) (nonzero-each es (h .1))
 
   kept-each : (k : Kind) (es : List Entry) → Each P es → Each P (kept k es)
-  kept-each sum es h = nonzero-each es h
-  kept-each product es h = h
-  kept-each count es h = nonzero-each es h
-  kept-each maximum es h = h
-  kept-each minimum es h = h
+  kept-each k es h = elim k [ sum ↦ nonzero-each es h | product ↦ h | count ↦ nonzero-each es h | maximum ↦ h | minimum ↦ h ]
 
   module _ (k : Kind) (joins : (x e : Entry) → P x → P e → P (join k x e)) where
     pub put-each : (xs : List Entry) (e : Entry) → Each P xs → P e → Each P (put k xs e)
     unfolding put
     put-each [] e h p = (p, tt)
-    put-each (x ∷ xs) e h p = go (same (x .literal) (e .literal)) (put-each xs e (h .1) p)
-      where
-        go : (b : Bool) → Each P (put k xs e) → Each P (cond b (join k x e ∷ xs) (x ∷ put k xs e))
-        go true ih = (joins x e (h .0) p, h .1)
-        go false ih = (h .0, ih)
+    put-each (x ∷ xs) e h p = elim (same (x .literal) (e .literal)) as (λ b. Each P (cond b (join k x e ∷ xs) (x ∷ put k xs e)))
+        [ true ↦ (joins x e (h .0) p, h .1) | false ↦ (h .0, put-each xs e (h .1) p) ]
 
     pub collect-each : (xs es : List Entry) → Each P xs → Each P es → Each P (collect k xs es)
     unfolding collect
@@ -93,18 +78,13 @@ module _ (P : ℤ → Type 0) where
 
   -- what the literal of every written entry has, the literal of every member has
   pub members-each : (k : Kind) (es : List Entry) → Each (λ e. P (e .literal)) es → Each (λ e. P (e .literal)) (members k es)
-  members-each sum es h = h
-  members-each product es h = h
-  members-each count es h = once-each (λ e. P (e .literal)) (ones es) (ones-each es h)
-  members-each maximum es h = h
-  members-each minimum es h = h
+  members-each k es h = elim k [ sum ↦ h | product ↦ h | count ↦ once-each (λ e. P (e .literal)) (ones es) (ones-each es h) | maximum ↦ h | minimum ↦ h ]
 
 -- ---- the merge
 
 module _ (P : ℕ → Type 0) where
   turned-by-has : (w l : ℤ) → P (atom l) → P (place (turned-by w l))
-  turned-by-has w (pos a) p = p
-  turned-by-has w (negsuc a) p = p
+  turned-by-has w l = elim l [ pos a ↦ λ p. p | negsuc a ↦ λ p. p ]
 
   turned-all-each : (es : List Entry) → Each (λ e. P (place e)) es → Each (λ e. P (place e)) (turned-all es)
   unfolding turned-all
@@ -112,15 +92,10 @@ module _ (P : ℕ → Type 0) where
   turned-all-each (e ∷ es) h = (turned-by-has (e .weight) (e .literal) (h .0), turned-all-each es (h .1))
 
   turned-each : (k : Kind) (es : List Entry) → Each (λ e. P (place e)) es → Each (λ e. P (place e)) (turned k es)
-  turned-each sum es h = turned-all-each es h
-  turned-each product es h = h
-  turned-each count es h = turned-all-each es h
-  turned-each maximum es h = h
-  turned-each minimum es h = h
+  turned-each k es h = elim k [ sum ↦ turned-all-each es h | product ↦ h | count ↦ turned-all-each es h | maximum ↦ h | minimum ↦ h ]
 
   pub merge-each : (k : Kind) (es : List Entry) → Each (λ e. P (place e)) es → Each (λ e. P (place e)) (merge k es .entries)
-  merge-each k es h =
-      kept-each (λ e. P (place e)) k (collect k [] (turned k (members k es)))
+  merge-each k es h = kept-each (λ e. P (place e)) k (collect k [] (turned k (members k es)))
       (collect-each (λ e. P (place e)) k (λ x e p q. p) [] (turned k (members k es)) tt
       (turned-each k (members k es) (members-each (λ l. P (atom l)) k es h)))
 

@@ -25,8 +25,7 @@ total-keeps-value : (k : Kind) → ((ws : List ℤ) → aggregate k ws ≡ at (t
 total-keeps-value k as-total es σ =
     let ts = turned-all es in
     let cs = collect k [] ts in
-    ap at (turned-total σ es)
-    ∙ ap (raised (freed-all es)) (sym (as-total (chosen σ ts)) ∙ sym (collect-keeps-value k ts σ) ∙ as-total (chosen σ cs))
+    ap at (turned-total σ es) ∙ ap (raised (freed-all es)) (sym (as-total (chosen σ ts)) ∙ sym (collect-keeps-value k ts σ) ∙ as-total (chosen σ cs))
     ∙ ap (λ z. at (freed-all es +ℤ z)) (sym (nonzero-total σ cs))
 
 -- in the kinds that turn no entry
@@ -43,20 +42,19 @@ merge-keeps-value minimum es σ = joined-keeps-value minimum es σ
 
 -- ---- the weights and the constant
 
+any : (es : List Entry) → Each (λ e. Unit {0}) es
+any es = each (λ e. Unit {0}) (λ e. tt) es
+
 merge-weights : (k : Kind) (es : List Entry) → Each (λ e. T (weighable k (e .weight))) es → Each (λ e. T (weighable k (e .weight))) (merge k es .entries)
-merge-weights sum es h = each (λ e. Unit {0}) (λ e. tt) (merge sum es .entries)
+merge-weights sum es h = any (merge sum es .entries)
 merge-weights product es h =
     collect-each (λ e. T (weighable product (e .weight))) product (λ x e p q. product-mono (pos 1) (x .weight) (pos 1) (e .weight) tt tt p q) [] es tt h
-merge-weights count es h = each (λ e. Unit {0}) (λ e. tt) (merge count es .entries)
-merge-weights maximum es h = each (λ e. Unit {0}) (λ e. tt) (merge maximum es .entries)
-merge-weights minimum es h = each (λ e. Unit {0}) (λ e. tt) (merge minimum es .entries)
+merge-weights count es h = any (merge count es .entries)
+merge-weights maximum es h = any (merge maximum es .entries)
+merge-weights minimum es h = any (merge minimum es .entries)
 
 unmixed-constant : (k : Kind) (es : List Entry) → T (not (mixes k)) → constant k es ≡ pos 0
-unmixed-constant sum es n = absurd n
-unmixed-constant product es n = refl
-unmixed-constant count es n = absurd n
-unmixed-constant maximum es n = refl
-unmixed-constant minimum es n = refl
+unmixed-constant k es = elim k [ sum ↦ absurd | product ↦ λ n. refl | count ↦ absurd | maximum ↦ λ n. refl | minimum ↦ λ n. refl ]
 
 -- ---- the whole
 

@@ -1,7 +1,7 @@
 -- The entries of a merged set have distinct atoms, since two entries of one atom have one literal and are joined: after turning all
 -- literals are positive, and in the kinds that turn none an atom has one sign.
 use mathlib.Core.Path.{_≡_, refl, sym, _∙_, ap}
-use mathlib.Core.Bool.{Bool, true, false, not, cond}
+use mathlib.Core.Bool.{true, false, not, cond}
 use mathlib.Core.List.{List, [], _∷_}
 use lib.IntN.{ℤ, pos, negsuc}
 use lib.Dec.{T}
@@ -18,37 +18,31 @@ SameLiteral l x = place x ≡ atom l → x .literal ≡ l
 put-distinct : (k : Kind) (xs : List Entry) (e : Entry) → Distinct xs → Each (SameLiteral (e .literal)) xs → Distinct (put k xs e)
 unfolding put
 put-distinct k [] e d h = (tt, tt)
-put-distinct k (x ∷ xs) e d h = go (same (x .literal) (e .literal)) (eq→same (x .literal) (e .literal)) (put-distinct k xs e (d .1) (h .1))
-  where
-    go : (b : Bool) → (x .literal ≡ e .literal → T b) → Distinct (put k xs e)
-        → Distinct (cond b (join k x e ∷ xs) (x ∷ put k xs e))
-    go true eq ih = d
-    go false eq ih = (put-each (λ y. ¬ (place y ≡ place x)) k (λ y z p q. p) xs e (d .0) (λ q. eq (h .0 (sym q))), ih)
+put-distinct k (x ∷ xs) e d h =
+    elim (same (x .literal) (e .literal)) as (λ b. (x .literal ≡ e .literal → T b) → Distinct (cond b (join k x e ∷ xs) (x ∷ put k xs e))) [
+      | true ↦ λ eq. d
+      | false ↦ λ eq. (put-each (λ y. ¬ (place y ≡ place x)) k (λ y z p q. p) xs e (d .0) (λ q. eq (h .0 (sym q))), put-distinct k xs e (d .1) (h .1))
+    ]
+    (eq→same (x .literal) (e .literal))
 
 collect-distinct : (k : Kind) (xs es : List Entry) → Distinct xs → Each (λ e. Each (SameLiteral (e .literal)) xs) es → OneSigned es → Distinct (collect k xs es)
 unfolding collect
 collect-distinct k xs [] d h o = d
-collect-distinct k xs (e ∷ es) d h o =
-    collect-distinct k (put k xs e) es (put-distinct k xs e d (h .0))
+collect-distinct k xs (e ∷ es) d h o = collect-distinct k (put k xs e) es (put-distinct k xs e d (h .0))
     (each-map (λ x. Each (SameLiteral (x .literal)) xs × (place x ≡ place e → x .literal ≡ e .literal)) (λ x. Each (SameLiteral (x .literal)) (put k xs e)) es
     (λ x p. put-each (SameLiteral (x .literal)) k (λ y z q r. q) xs e (p .0) (λ q. sym (p .1 (sym q))))
-    (each-both (λ x. Each (SameLiteral (x .literal)) xs) (λ x. place x ≡ place e → x .literal ≡ e .literal) es (h .1) (o .0)))
-    (o .1)
+    (each-both (λ x. Each (SameLiteral (x .literal)) xs) (λ x. place x ≡ place e → x .literal ≡ e .literal) es (h .1) (o .0))) (o .1)
 
 nonzero-distinct : (es : List Entry) → Distinct es → Distinct (nonzero es)
 unfolding nonzero
 nonzero-distinct [] d = tt
-nonzero-distinct (e ∷ es) d = go (same (e .weight) (pos 0)) (nonzero-distinct es (d .1))
-  where
-    go : (b : Bool) → Distinct (nonzero es) → Distinct (cond b (nonzero es) (e ∷ nonzero es))
-    go true ih = ih
-    go false ih = (nonzero-each (λ x. ¬ (place x ≡ place e)) es (d .0), ih)
+nonzero-distinct (e ∷ es) d = elim (same (e .weight) (pos 0)) as (λ b. Distinct (cond b (nonzero es) (e ∷ nonzero es)))
+    [ true ↦ nonzero-distinct es (d .1) | false ↦ (nonzero-each (λ x. ¬ (place x ≡ place e)) es (d .0), nonzero-distinct es (d .1)) ]
 
 -- ---- after turning all literals are positive
 
 turned-by-positive : (w l : ℤ) → turned-by w l .literal ≡ pos (place (turned-by w l))
-turned-by-positive w (pos a) = refl
-turned-by-positive w (negsuc a) = refl
+turned-by-positive w l = elim l [ pos a ↦ refl | negsuc a ↦ refl ]
 
 pub turned-all-positive : (es : List Entry) → Each (λ e. e .literal ≡ pos (place e)) (turned-all es)
 unfolding turned-all

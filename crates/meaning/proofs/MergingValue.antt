@@ -15,15 +15,10 @@ use Rattle.meaning.proofs.Gather.{gather-last, gather-chosen}
 use Rattle.meaning.proofs.Members.{join, same→eq}
 
 at-cond : (b : Bool) (v w : ℤ) → at (cond b v w) ≡ cond b (at v) (at w)
-at-cond true v w = refl
-at-cond false v w = refl
+at-cond b v w = elim b [ true ↦ refl | false ↦ refl ]
 
 at-joined : (k : Kind) (v w : ℤ) → at (joined k v w) ≡ combine k (at v) (at w)
-at-joined sum v w = refl
-at-joined product v w = refl
-at-joined count v w = refl
-at-joined maximum v w = at-cond (leZ v w) w v
-at-joined minimum v w = at-cond (leZ v w) v w
+at-joined k v w = elim k [ sum ↦ refl | product ↦ refl | count ↦ refl | maximum ↦ at-cond (leZ v w) w v | minimum ↦ at-cond (leZ v w) v w ]
 
 -- over any choice of literals
 module _ (k : Kind) (t : ℤ → Bool) where
@@ -31,11 +26,10 @@ module _ (k : Kind) (t : ℤ → Bool) where
   given-by e = cond (t (e .literal)) (at (e .weight)) (empty k)
 
   join-value : (x e : Entry) → x .literal ≡ e .literal → given-by (join k x e) ≡ combine k (given-by x) (given-by e)
-  join-value x e same = go (t (x .literal)) ∙ ap (λ l. combine k (given-by x) (cond (t l) (at (e .weight)) (empty k))) same
-    where
-      go : (b : Bool) → cond b (at (joined k (x .weight) (e .weight))) (empty k) ≡ combine k (cond b (at (x .weight)) (empty k)) (cond b (at (e .weight)) (empty k))
-      go true = at-joined k (x .weight) (e .weight)
-      go false = sym (empty-combine k (empty k))
+  join-value x e same =
+      (elim (t (x .literal)) as (λ b. cond b (at (joined k (x .weight) (e .weight))) (empty k) ≡ combine k (cond b (at (x .weight)) (empty k)) (cond b (at (e .weight)) (empty k)))
+      [ true ↦ at-joined k (x .weight) (e .weight) | false ↦ sym (empty-combine k (empty k)) ])
+      ∙ ap (λ l. combine k (given-by x) (cond (t l) (at (e .weight)) (empty k))) same
 
   put-value : (v : Extended) (xs : List Entry) (e : Entry) → gather k given-by v (put k xs e) ≡ combine k (gather k given-by v xs) (given-by e)
   unfolding gather put
@@ -45,8 +39,7 @@ module _ (k : Kind) (t : ℤ → Bool) where
       go : (b : Bool) → (T b → x .literal ≡ e .literal)
           → gather k given-by (combine k v (given-by x)) (put k xs e) ≡ combine k (gather k given-by (combine k v (given-by x)) xs) (given-by e)
           → gather k given-by v (cond b (join k x e ∷ xs) (x ∷ put k xs e)) ≡ combine k (gather k given-by (combine k v (given-by x)) xs) (given-by e)
-      go true eq ih =
-          ap (λ u. gather k given-by u xs) (ap (combine k v) (join-value x e (eq tt)) ∙ sym (combine-assoc k v (given-by x) (given-by e)))
+      go true eq ih = ap (λ u. gather k given-by u xs) (ap (combine k v) (join-value x e (eq tt)) ∙ sym (combine-assoc k v (given-by x) (given-by e)))
           ∙ gather-last k given-by (combine k v (given-by x)) (given-by e) xs
       go false eq ih = ih
 
@@ -62,8 +55,7 @@ aggregate-gather k σ es = sym (gather-chosen k σ (empty k) es ∙ empty-combin
 
 pub collect-keeps-value : (k : Kind) (es : List Entry) (σ : Assignment) → aggregate k (chosen σ (collect k [] es)) ≡ aggregate k (chosen σ es)
 unfolding gather
-collect-keeps-value k es σ =
-    aggregate-gather k σ (collect k [] es) ∙ collect-value k (holds σ) (empty k) [] es ∙ sym (aggregate-gather k σ es)
+collect-keeps-value k es σ = aggregate-gather k σ (collect k [] es) ∙ collect-value k (holds σ) (empty k) [] es ∙ sym (aggregate-gather k σ es)
 
 -- ---- over all: the product of the weights
 
@@ -83,5 +75,4 @@ integer above = pos 0
 
 pub merge-product : (es : List Entry) → multiplied (weights-of (merge product es .entries)) ≡ multiplied (weights-of es)
 unfolding gather integer
-merge-product es =
-    ap integer (weights-gather (collect product [] es) ∙ collect-value product (λ l. true) (empty product) [] es ∙ sym (weights-gather es))
+merge-product es = ap integer (weights-gather (collect product [] es) ∙ collect-value product (λ l. true) (empty product) [] es ∙ sym (weights-gather es))

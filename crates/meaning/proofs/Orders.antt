@@ -5,7 +5,7 @@ use mathlib.Core.Bool.{Bool, true, false, not, cond}
 use lib.IntN.{ℤ, pos, _+ℤ_, _*ℤ_, +ℤ-comm, +ℤ-assoc, +ℤ-idr, one, *ℤ-comm, *ℤ-one}
 use lib.Signed.{leZ}
 use lib.Dec.{T}
-use Rattle.numbers.specs.Extended.{Extended, below, at, above, leE, greater, lesser, Direction, down, up, further}
+use Rattle.numbers.specs.Extended.{Extended, below, at, above, leE, Direction, down, up, further}
 use Rattle.numbers.proofs.Integers.{ints, *ℤ-assoc, leZ-refl, leZ-trans, leZ-total, sum-mono, Natural, product-natural, product-mono}
 use Rattle.meaning.specs.Meaning.{Kind, sum, product, count, maximum, minimum, empty, Entry, truth, weighable, Side, lower, upper, comparison}
 use Rattle.meaning.specs.Computed.{both, combine, starting, given, furthest, towards}
@@ -19,52 +19,36 @@ pub T-false : {b : Bool} → b ≡ false → T b → ⊥
 T-false e t = subst T e t
 
 pub is-true : {b : Bool} → T b → b ≡ true
-is-true {b = true} t = refl
-is-true {b = false} t = absurd t
+is-true {b} = elim b [ true ↦ λ t. refl | false ↦ absurd ]
 
 pub is-false : {b : Bool} → (T b → ⊥) → b ≡ false
-is-false {b = true} f = absurd (f tt)
-is-false {b = false} f = refl
+is-false {b} = elim b [ true ↦ λ f. absurd (f tt) | false ↦ λ f. refl ]
 
 -- ---- the order on values
 
 pub leE-refl : (v : Extended) → T (leE v v)
-leE-refl below = tt
-leE-refl (at a) = leZ-refl a
-leE-refl above = tt
+leE-refl v = elim v [ below ↦ tt | at a ↦ leZ-refl a | above ↦ tt ]
 
 pub leE-trans : (u v w : Extended) → T (leE u v) → T (leE v w) → T (leE u w)
 leE-trans below v w h k = tt
 leE-trans (at a) below w h k = absurd h
-leE-trans (at a) (at b) below h k = absurd k
-leE-trans (at a) (at b) (at c) h k = leZ-trans a b c h k
-leE-trans (at a) (at b) above h k = tt
-leE-trans (at a) above below h k = absurd k
-leE-trans (at a) above (at c) h k = absurd k
-leE-trans (at a) above above h k = tt
+leE-trans (at a) (at b) w h k = elim w as (λ w. T (leE (at b) w) → T (leE (at a) w)) [ below ↦ absurd | at c ↦ leZ-trans a b c h | above ↦ λ k. tt ] k
+leE-trans (at a) above w h k = elim w as (λ w. T (leE above w) → T (leE (at a) w)) [ below ↦ absurd | at c ↦ absurd | above ↦ λ k. tt ] k
 leE-trans above below w h k = absurd h
 leE-trans above (at b) w h k = absurd h
 leE-trans above above w h k = k
 
 pub leE-total : (v w : Extended) → T (not (leE v w)) → T (leE w v)
 leE-total below w h = absurd h
-leE-total (at a) below h = tt
-leE-total (at a) (at b) h = leZ-total a b h
-leE-total (at a) above h = absurd h
-leE-total above below h = tt
-leE-total above (at b) h = tt
-leE-total above above h = absurd h
+leE-total (at a) w h = elim w as (λ w. T (not (leE (at a) w)) → T (leE w (at a))) [ below ↦ λ h. tt | at b ↦ leZ-total a b | above ↦ λ h. absurd h ] h
+leE-total above w h = elim w as (λ w. T (not (leE above w)) → T (leE w above)) [ below ↦ λ h. tt | at b ↦ λ h. tt | above ↦ λ h. absurd h ] h
 
 pub leE-antisym : (v w : Extended) → T (leE v w) → T (leE w v) → v ≡ w
-leE-antisym below below h k = refl
-leE-antisym below (at b) h k = absurd k
-leE-antisym below above h k = absurd k
+leE-antisym below w h k = elim w as (λ w. T (leE w below) → below ≡ w) [ below ↦ λ k. refl | at b ↦ absurd | above ↦ absurd ] k
 leE-antisym (at a) below h k = absurd h
 leE-antisym (at a) (at b) h k = ap at (omega ints)
 leE-antisym (at a) above h k = absurd k
-leE-antisym above below h k = absurd h
-leE-antisym above (at b) h k = absurd h
-leE-antisym above above h k = refl
+leE-antisym above w h k = elim w as (λ w. T (leE above w) → above ≡ w) [ below ↦ absurd | at b ↦ absurd | above ↦ λ h. refl ] h
 
 -- ---- the further of two, in either direction
 
@@ -75,8 +59,7 @@ module _ (P : Extended → Type 0) (v w : Extended) where
   pick false y n = n tt
 
 pub further-refl : (d : Direction) (v : Extended) → T (further d v v)
-further-refl up v = leE-refl v
-further-refl down v = leE-refl v
+further-refl d v = elim d [ down ↦ leE-refl v | up ↦ leE-refl v ]
 
 pub further-trans : (d : Direction) (u v w : Extended) → T (further d u v) → T (further d v w) → T (further d u w)
 further-trans up u v w h k = leE-trans u v w h k
@@ -104,9 +87,7 @@ module _ (d : Direction) where
   furthest-within v w x h k = furthest-of (λ y. T (further d y x)) d v w h k
 
   furthest-mono : (v v′ w w′ : Extended) → T (further d v v′) → T (further d w w′) → T (further d (furthest d v w) (furthest d v′ w′))
-  furthest-mono v v′ w w′ h k =
-      furthest-within v w (furthest d v′ w′)
-      (further-trans d v v′ (furthest d v′ w′) h (furthest-first d v′ w′))
+  furthest-mono v v′ w w′ h k = furthest-within v w (furthest d v′ w′) (further-trans d v v′ (furthest d v′ w′) h (furthest-first d v′ w′))
       (further-trans d w w′ (furthest d v′ w′) k (furthest-second d v′ w′))
 
   furthest-comm : (v w : Extended) → furthest d v w ≡ furthest d w v
@@ -121,11 +102,9 @@ module _ (d : Direction) where
       let vw = furthest d v w in
       let l = furthest d uv w in
       let r = furthest d u vw in
-      further-antisym d l r
-      (furthest-within uv w r
+      further-antisym d l r (furthest-within uv w r
       (furthest-within u v r (furthest-first d u vw) (further-trans d v vw r (furthest-first d v w) (furthest-second d u vw)))
-      (further-trans d w vw r (furthest-second d v w) (furthest-second d u vw)))
-      (furthest-within u vw l
+      (further-trans d w vw r (furthest-second d v w) (furthest-second d u vw))) (furthest-within u vw l
       (further-trans d u uv l (furthest-first d u v) (furthest-first d uv w))
       (furthest-within v w l (further-trans d v uv l (furthest-second d u v) (furthest-first d uv w)) (furthest-second d uv w)))
 
@@ -146,46 +125,26 @@ OfAt P above = Unit {0}
 
 module _ (f : ℤ → ℤ → ℤ) where
   both-comm : ((a b : ℤ) → f a b ≡ f b a) → (v w : Extended) → both f v w ≡ both f w v
-  both-comm c below below = refl
-  both-comm c below (at b) = refl
-  both-comm c below above = refl
-  both-comm c (at a) below = refl
-  both-comm c (at a) (at b) = ap at (c a b)
-  both-comm c (at a) above = refl
-  both-comm c above below = refl
-  both-comm c above (at b) = refl
-  both-comm c above above = refl
+  both-comm c below w = elim w [ below ↦ refl | at b ↦ refl | above ↦ refl ]
+  both-comm c (at a) w = elim w [ below ↦ refl | at b ↦ ap at (c a b) | above ↦ refl ]
+  both-comm c above w = elim w [ below ↦ refl | at b ↦ refl | above ↦ refl ]
 
   both-assoc : ((a b c : ℤ) → f (f a b) c ≡ f a (f b c)) → (u v w : Extended) → both f (both f u v) w ≡ both f u (both f v w)
   both-assoc s below v w = refl
   both-assoc s (at a) below w = refl
-  both-assoc s (at a) (at b) below = refl
-  both-assoc s (at a) (at b) (at c) = ap at (s a b c)
-  both-assoc s (at a) (at b) above = refl
-  both-assoc s (at a) above below = refl
-  both-assoc s (at a) above (at c) = refl
-  both-assoc s (at a) above above = refl
+  both-assoc s (at a) (at b) w = elim w [ below ↦ refl | at c ↦ ap at (s a b c) | above ↦ refl ]
+  both-assoc s (at a) above w = elim w [ below ↦ refl | at c ↦ refl | above ↦ refl ]
   both-assoc s above below w = refl
-  both-assoc s above (at b) below = refl
-  both-assoc s above (at b) (at c) = refl
-  both-assoc s above (at b) above = refl
-  both-assoc s above above below = refl
-  both-assoc s above above (at c) = refl
-  both-assoc s above above above = refl
+  both-assoc s above (at b) w = elim w [ below ↦ refl | at c ↦ refl | above ↦ refl ]
+  both-assoc s above above w = elim w [ below ↦ refl | at c ↦ refl | above ↦ refl ]
 
   both-unit : (z : ℤ) → ((a : ℤ) → f a z ≡ a) → (v : Extended) → both f v (at z) ≡ v
-  both-unit z u below = refl
-  both-unit z u (at a) = ap at (u a)
-  both-unit z u above = refl
+  both-unit z u v = elim v [ below ↦ refl | at a ↦ ap at (u a) | above ↦ refl ]
 
   both-of : (P : ℤ → Type 0) → ((a b : ℤ) → P a → P b → P (f a b)) → (v w : Extended) → OfAt P v → OfAt P w → OfAt P (both f v w)
   both-of P keep below w p q = tt
-  both-of P keep (at a) below p q = tt
-  both-of P keep (at a) (at b) p q = keep a b p q
-  both-of P keep (at a) above p q = tt
-  both-of P keep above below p q = tt
-  both-of P keep above (at b) p q = tt
-  both-of P keep above above p q = tt
+  both-of P keep (at a) w p q = elim w as (λ w. OfAt P w → OfAt P (both f (at a) w)) [ below ↦ λ q. tt | at b ↦ keep a b p | above ↦ λ q. tt ] q
+  both-of P keep above w p q = elim w [ below ↦ tt | at b ↦ tt | above ↦ tt ]
 
   module _ (P : ℤ → Type 0) (comm : (a b : ℤ) → f a b ≡ f b a)
       (mono : (a b c : ℤ) → P a → P c → T (leZ a b) → T (leZ (f a c) (f b c))) where
@@ -195,16 +154,13 @@ module _ (f : ℤ → ℤ → ℤ) where
     both-left (at a) (at b) below p q h = tt
     both-left (at a) (at b) (at c) p q h = mono a b c p q h
     both-left (at a) (at b) above p q h = tt
-    both-left (at a) above below p q h = tt
-    both-left (at a) above (at c) p q h = tt
-    both-left (at a) above above p q h = tt
+    both-left (at a) above w p q h = elim w [ below ↦ tt | at c ↦ tt | above ↦ tt ]
     both-left above below w p q h = absurd h
     both-left above (at b) w p q h = absurd h
     both-left above above w p q h = leE-refl (both f above w)
 
     both-mono : (v v′ w w′ : Extended) → OfAt P v → OfAt P v′ → OfAt P w → T (leE v v′) → T (leE w w′) → T (leE (both f v w) (both f v′ w′))
-    both-mono v v′ w w′ p p′ q h k =
-        leE-trans (both f v w) (both f v′ w) (both f v′ w′) (both-left v v′ w p q h)
+    both-mono v v′ w w′ p p′ q h k = leE-trans (both f v w) (both f v′ w) (both f v′ w′) (both-left v v′ w p q h)
         (rw (both-comm comm v′ w, both-comm comm v′ w′) (both-left w w′ v′ q p′ k))
 
 -- ---- the five kinds
@@ -226,23 +182,13 @@ combine-assoc minimum = furthest-assoc down
 pub combine-swap : (k : Kind) (u v w : Extended) → combine k (combine k u v) w ≡ combine k (combine k u w) v
 combine-swap k u v w = combine-assoc k u v w ∙ ap (combine k u) (combine-comm k v w) ∙ sym (combine-assoc k u w v)
 
-greater-below : (v : Extended) → greater v below ≡ v
-greater-below below = refl
-greater-below (at a) = refl
-greater-below above = refl
-
-lesser-above : (v : Extended) → lesser v above ≡ v
-lesser-above below = refl
-lesser-above (at a) = refl
-lesser-above above = refl
-
 pub combine-empty : (k : Kind) (v : Extended) → combine k v (empty k) ≡ v
 unfolding one
-combine-empty sum = both-unit _+ℤ_ (pos 0) +ℤ-idr
-combine-empty product = both-unit _*ℤ_ (pos 1) *ℤ-one
-combine-empty count = both-unit _+ℤ_ (pos 0) +ℤ-idr
-combine-empty maximum = greater-below
-combine-empty minimum = lesser-above
+combine-empty sum v = both-unit _+ℤ_ (pos 0) +ℤ-idr v
+combine-empty product v = both-unit _*ℤ_ (pos 1) *ℤ-one v
+combine-empty count v = both-unit _+ℤ_ (pos 0) +ℤ-idr v
+combine-empty maximum v = elim v [ below ↦ refl | at a ↦ refl | above ↦ refl ]
+combine-empty minimum v = elim v [ below ↦ refl | at a ↦ refl | above ↦ refl ]
 
 pub empty-combine : (k : Kind) (v : Extended) → combine k (empty k) v ≡ v
 empty-combine k v = combine-comm k (empty k) v ∙ combine-empty k v
@@ -256,11 +202,8 @@ Proper maximum v = Unit {0}
 Proper minimum v = Unit {0}
 
 pub combine-proper : (k : Kind) (v w : Extended) → Proper k v → Proper k w → Proper k (combine k v w)
-combine-proper sum v w p q = tt
-combine-proper product v w p q = both-of _*ℤ_ Natural product-natural v w p q
-combine-proper count v w p q = tt
-combine-proper maximum v w p q = tt
-combine-proper minimum v w p q = tt
+combine-proper k v w = elim k as (λ k. Proper k v → Proper k w → Proper k (combine k v w))
+    [ sum ↦ λ p q. tt | product ↦ both-of _*ℤ_ Natural product-natural v w | count ↦ λ p q. tt | maximum ↦ λ p q. tt | minimum ↦ λ p q. tt ]
 
 pub given-proper : (k : Kind) (e : Entry) (b : Bool) → T (weighable k (e .weight)) → Proper k (given k e b)
 given-proper sum e b h = tt
@@ -270,16 +213,10 @@ given-proper maximum e b h = tt
 given-proper minimum e b h = tt
 
 pub starting-proper : (k : Kind) (c : ℤ) → Proper k (starting k c)
-starting-proper sum c = tt
-starting-proper product c = tt
-starting-proper count c = tt
-starting-proper maximum c = tt
-starting-proper minimum c = tt
+starting-proper k c = elim k [ sum ↦ tt | product ↦ tt | count ↦ tt | maximum ↦ tt | minimum ↦ tt ]
 
 always : (v : Extended) → OfAt (λ z. Unit {0}) v
-always below = tt
-always (at a) = tt
-always above = tt
+always v = elim v [ below ↦ tt | at a ↦ tt | above ↦ tt ]
 
 plus-mono : (v v′ w w′ : Extended) → T (leE v v′) → T (leE w w′) → T (leE (both _+ℤ_ v w) (both _+ℤ_ v′ w′))
 plus-mono v v′ w w′ h k = both-mono _+ℤ_ (λ z. Unit {0}) +ℤ-comm (λ a b c p q h. sum-mono a b c c h (leZ-refl c)) v v′ w w′ (always v) (always v′) (always w) h k

@@ -1,7 +1,7 @@
 -- A merged set is its own merge. Its entries are of different atoms, so that none joins another; in a sum or count they are on the atoms
 -- themselves, so that none is turned, and none has the weight 0.
 use mathlib.Core.Path.{_≡_, refl, sym, _∙_, ap, ap₂}
-use mathlib.Core.Bool.{Bool, true, false, cond}
+use mathlib.Core.Bool.{true, false, cond}
 use mathlib.Core.List.{List, [], _∷_, _++_, append-nil}
 use Prim.Native.Nat.{ℕ}
 use lib.IntN.{ℤ, pos, _+ℤ_}
@@ -18,12 +18,9 @@ use Rattle.meaning.proofs.Members.{same→eq, join, each-both}
 put-behind : (k : Kind) (xs : List Entry) (e : Entry) → Off (place e) xs → put k xs e ≡ xs ++ (e ∷ [])
 unfolding put
 put-behind k [] e h = refl
-put-behind k (x ∷ xs) e h =
-    go (same (x .literal) (e .literal)) (λ t. h .0 (ap {A = ℤ} atom (same→eq (x .literal) (e .literal) t))) (put-behind k xs e (h .1))
-  where
-    go : (b : Bool) → (T b → ⊥) → put k xs e ≡ xs ++ (e ∷ []) → cond b (join k x e ∷ xs) (x ∷ put k xs e) ≡ x ∷ (xs ++ (e ∷ []))
-    go true n q = absurd (n tt)
-    go false n q = ap (λ y. x ∷ y) q
+put-behind k (x ∷ xs) e h = elim (same (x .literal) (e .literal)) as (λ b. (T b → ⊥) → cond b (join k x e ∷ xs) (x ∷ put k xs e) ≡ x ∷ (xs ++ (e ∷ [])))
+    [ true ↦ λ n. absurd (n tt) | false ↦ λ n. ap (λ y. x ∷ y) (put-behind k xs e (h .1)) ]
+    (λ t. h .0 (ap {A = ℤ} atom (same→eq (x .literal) (e .literal) t)))
 
 off-behind : (a : ℕ) (xs : List Entry) (e : Entry) → Off a xs → ¬ (place e ≡ a) → Off a (xs ++ (e ∷ []))
 off-behind a [] e h n = (n, tt)
@@ -32,12 +29,9 @@ off-behind a (x ∷ xs) e h n = (h .0, off-behind a xs e (h .1) n)
 collect-behind : (k : Kind) (xs es : List Entry) → Distinct es → Each (λ e. Off (place e) xs) es → collect k xs es ≡ xs ++ es
 unfolding collect
 collect-behind k xs [] d h = sym (append-nil xs)
-collect-behind k xs (e ∷ es) d h =
-    ap (λ ys. collect k ys es) (put-behind k xs e (h .0))
-    ∙ collect-behind k (xs ++ (e ∷ [])) es (d .1)
+collect-behind k xs (e ∷ es) d h = ap (λ ys. collect k ys es) (put-behind k xs e (h .0)) ∙ collect-behind k (xs ++ (e ∷ [])) es (d .1)
     (each-map (λ x. Off (place x) xs × (¬ (place x ≡ place e))) (λ x. Off (place x) (xs ++ (e ∷ []))) es
-    (λ x p. off-behind (place x) xs e (p .0) (λ q. p .1 (sym q)))
-    (each-both (λ x. Off (place x) xs) (λ x. ¬ (place x ≡ place e)) es (h .1) (d .0)))
+    (λ x p. off-behind (place x) xs e (p .0) (λ q. p .1 (sym q))) (each-both (λ x. Off (place x) xs) (λ x. ¬ (place x ≡ place e)) es (h .1) (d .0)))
     ∙ append-snoc xs e es
 
 off-none : (es : List Entry) → Each (λ e. Off (place e) []) es
@@ -55,8 +49,7 @@ Turned e = (e .literal ≡ pos (place e)) × (¬ (e .weight ≡ pos 0))
 turned-same : (es : List Entry) → Each Turned es → turned-all es ≡ es
 unfolding turned-all
 turned-same [] h = refl
-turned-same (e ∷ es) h =
-    ap₂ {A = Entry} {B = List Entry} _∷_
+turned-same (e ∷ es) h = ap₂ {A = Entry} {B = List Entry} _∷_
     (ap {A = ℤ} (turned-by (e .weight)) (h .0 .0) ∙ ap {A = ℤ} {B = Entry} (λ l. record { weight = e .weight; literal = l }) (sym (h .0 .0)))
     (turned-same es (h .1))
 
@@ -68,18 +61,14 @@ freed-none (e ∷ es) h = ap₂ {A = ℤ} {B = ℤ} _+ℤ_ (ap {A = ℤ} (freed-
 nonzero-same : (es : List Entry) → Each Turned es → nonzero es ≡ es
 unfolding nonzero
 nonzero-same [] h = refl
-nonzero-same (e ∷ es) h = go (same (e .weight) (pos 0)) (λ t. h .0 .1 (same→eq (e .weight) (pos 0) t)) (nonzero-same es (h .1))
-  where
-    go : (b : Bool) → (T b → ⊥) → nonzero es ≡ es → cond b (nonzero es) (e ∷ nonzero es) ≡ e ∷ es
-    go true n q = absurd (n tt)
-    go false n q = ap (λ y. e ∷ y) q
+nonzero-same (e ∷ es) h = elim (same (e .weight) (pos 0)) as (λ b. (T b → ⊥) → cond b (nonzero es) (e ∷ nonzero es) ≡ e ∷ es)
+    [ true ↦ λ n. absurd (n tt) | false ↦ λ n. ap (λ y. e ∷ y) (nonzero-same es (h .1)) ] (λ t. h .0 .1 (same→eq (e .weight) (pos 0) t))
 
 abbrev merged-as : ℤ → List Entry → Merged
 merged-as c es = record { constant = c; entries = es }
 
 sum-restored : (es : List Entry) → Distinct es → Each Turned es → merge sum es ≡ merged-as (pos 0) es
-sum-restored es d h =
-    ap₂ {A = ℤ} {B = List Entry} merged-as (freed-none es h)
+sum-restored es d h = ap₂ {A = ℤ} {B = List Entry} merged-as (freed-none es h)
     (ap (λ xs. nonzero (collect sum [] xs)) (turned-same es h) ∙ ap nonzero (collected sum es d) ∙ nonzero-same es h)
 
 -- ---- the entries of a rule
@@ -87,9 +76,12 @@ sum-restored es d h =
 pub restored : (r : Rule) → IsMerged r → merge (merged-kind (r .kind)) (r .set .entries) ≡ record { constant = pos 0; entries = r .set .entries }
 restored r m = go (r .kind) (m .turned)
   where
+    joined : (k : Kind) → merged-as (pos 0) (collect k [] (r .set .entries)) ≡ merged-as (pos 0) (r .set .entries)
+    joined k = ap (merged-as (pos 0)) (collected k (r .set .entries) (m .distinct))
+
     go : (k : Kind) → (T (mixes k) → Each Turned (r .set .entries)) → merge (merged-kind k) (r .set .entries) ≡ merged-as (pos 0) (r .set .entries)
     go sum h = sum-restored (r .set .entries) (m .distinct) (h tt)
-    go product h = ap (merged-as (pos 0)) (collected product (r .set .entries) (m .distinct))
+    go product h = joined product
     go count h = sum-restored (r .set .entries) (m .distinct) (h tt)
-    go maximum h = ap (merged-as (pos 0)) (collected maximum (r .set .entries) (m .distinct))
-    go minimum h = ap (merged-as (pos 0)) (collected minimum (r .set .entries) (m .distinct))
+    go maximum h = joined maximum
+    go minimum h = joined minimum

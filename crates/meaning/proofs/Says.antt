@@ -88,9 +88,7 @@ says-right s m t p n c = go (refuted (rule-with s m) t) refl
   where
     go : (x : Bool) → refuted (rule-with s m) t ≡ x → Says s t (scope (rule-with s m)) (cond x conflict (first-due (rule-with s m) t (scope (rule-with s m))))
     go true e = refuted-conflict s m t p (T-true e)
-    go false e =
-        scanned-says s m t p c (first-due (rule-with s m) t (scope (rule-with s m)))
-        (satisfiable-test s m t p c (T-false e))
+    go false e = scanned-says s m t p c (first-due (rule-with s m) t (scope (rule-with s m))) (satisfiable-test s m t p c (T-false e))
         (first-due-right s m t p c (scope (rule-with s m)) (n, places-each (λ a. 1 ≤ a) (m .entries) (p .literals)))
 
 -- ---- what a sentence says first is one answer

@@ -7,9 +7,9 @@ use Prim.Native.Nat.{ℕ}
 use lib.IntN.{ℤ, pos, negℤ}
 use lib.Dec.{eqb}
 use Rattle.numbers.specs.Extended.{Direction}
-use Rattle.meaning.specs.Meaning.{atom, truth, Entry, place, Each, conflict, forced}
+use Rattle.meaning.specs.Meaning.{atom, truth, Entry, place, Each, conflict}
 use Rattle.meaning.specs.Merge.{Rule, places, scope}
-use Rattle.meaning.specs.Computed.{given, starting, Standing, free, fixed, standing, reach, extreme-of, extreme, towards, compared, refuted-at, refuted, is-free, due, first-due, says}
+use Rattle.meaning.specs.Computed.{given, starting, free, fixed, standing, reach, extreme-of, extreme, towards, compared, refuted-at, refuted, is-free, due, first-due, says}
 use Rattle.meaning.proofs.Gather.{each-map, gather-same}
 use Rattle.meaning.proofs.Trails.{opposite-atom}
 
@@ -33,27 +33,20 @@ extreme-standing d r t t′ h =
     (λ e q. ap (reach d (given (r .kind) e)) q) (each-place (SameStanding t t′) (r .set .entries) (h .1)))
 
 pub refuted-standing : (r : Rule) (t t′ : List ℤ) → Each (SameStanding t t′) (scope r) → refuted r t ≡ refuted r t′
-refuted-standing r t t′ h = ap (refuted-at r t) (h .0) ∙ go (standing t′ (r .head))
-  where
-    go : (x : Standing) → refuted-at r t x ≡ refuted-at r t′ x
-    go free = refl
-    go (fixed b) = ap (λ v. not (Bool·beq b (compared r v))) (extreme-standing (towards (r .side) b) r t t′ h)
+refuted-standing r t t′ h = ap (refuted-at r t) (h .0) ∙ (elim (standing t′ (r .head)) as (λ x. refuted-at r t x ≡ refuted-at r t′ x)
+    [ free ↦ refl | fixed b ↦ ap (λ v. not (Bool·beq b (compared r v))) (extreme-standing (towards (r .side) b) r t t′ h) ])
 
 module _ (r : Rule) (t t′ : List ℤ) (h : Each (SameStanding t t′) (scope r)) where
   due-standing : (l : ℤ) (a : ℕ) → atom l ≡ a → SameStanding t t′ a → due r t l ≡ due r t′ l
-  due-standing l a e q =
-      ap₂ (λ x y. is-free x && y) (subst (SameStanding t t′) (sym e) q)
+  due-standing l a e q = ap₂ (λ x y. is-free x && y) (subst (SameStanding t t′) (sym e) q)
       (refuted-standing r (negℤ l ∷ t) (negℤ l ∷ t′) (each-map (SameStanding t t′) (SameStanding (negℤ l ∷ t) (negℤ l ∷ t′)) (scope r) (put-alike (negℤ l) t t′) h))
 
   first-due-standing : (atoms : List ℕ) → Each (SameStanding t t′) atoms → first-due r t atoms ≡ first-due r t′ atoms
   unfolding first-due
   first-due-standing [] g = refl
   first-due-standing (a ∷ rest) g =
-      ap (λ c. cond c (forced (pos a)) (cond (due r t (negℤ (pos a))) (forced (negℤ (pos a))) (first-due r t rest))) (due-standing (pos a) a refl (g .0))
-      ∙ ap (λ c. cond (due r t′ (pos a)) (forced (pos a)) (cond c (forced (negℤ (pos a))) (first-due r t rest))) (due-standing (negℤ (pos a)) a (opposite-atom (pos a)) (g .0))
-      ∙ ap (λ s. cond (due r t′ (pos a)) (forced (pos a)) (cond (due r t′ (negℤ (pos a))) (forced (negℤ (pos a))) s)) (first-due-standing rest (g .1))
+      rw (due-standing (pos a) a refl (g .0), due-standing (negℤ (pos a)) a (opposite-atom (pos a)) (g .0), first-due-standing rest (g .1))
 
 pub says-standing : (r : Rule) (t t′ : List ℤ) → Each (SameStanding t t′) (scope r) → says r t ≡ says r t′
 unfolding says
-says-standing r t t′ h =
-    ap₂ (λ c s. cond c conflict s) (refuted-standing r t t′ h) (first-due-standing r t t′ h (scope r) h)
+says-standing r t t′ h = ap₂ (λ c s. cond c conflict s) (refuted-standing r t t′ h) (first-due-standing r t t′ h (scope r) h)

@@ -1,7 +1,7 @@
 -- A stored rule is a sentence of its own. A constant off the bound does to the comparison what the constant on the value does, and a merged
 -- count is a sum: so the rule of a written sentence is satisfied where the sentence is, and the tests on any rule judge its sentence.
 use mathlib.Core.Path.{_≡_, refl, sym, _∙_, ap, subst}
-use mathlib.Core.Bool.{Bool, true, false, not, Bool·beq}
+use mathlib.Core.Bool.{true, not, Bool·beq}
 use mathlib.Core.List.{List, [], _∷_}
 use Prim.Native.Nat.{ℕ, _≤_}
 use lib.IntN.{ℤ, pos, negℤ, _+ℤ_, _-ℤ_}
@@ -9,12 +9,13 @@ use lib.Signed.{leZ}
 use lib.Dec.{T}
 use Rattle.numbers.specs.Extended.{Extended, below, at, above, Direction}
 use Rattle.numbers.proofs.Integers.{ints, sum-parts, neg-parts}
+use Rattle.numbers.proofs.Words.{same-test}
 use Rattle.meaning.specs.Meaning.{Assignment, Entry, chosen, Kind, sum, product, count, maximum, minimum, aggregate, empty, members, Side, lower, upper, comparison, Sentence, value, Satisfied, Consistent, Conflict, Says, weighable}
 use Rattle.meaning.specs.Merge.{Merged, turned-all, freed-all, put, collect, nonzero, raised, merged-value, Rule, rule-with, rule-of, scope, merged-kind, as-sentence}
-use Rattle.meaning.specs.Computed.{combine, gather, starting, Standing, free, fixed, standing, extreme-of, extreme, towards, refuted-at, refuted, first-due, says}
+use Rattle.meaning.specs.Computed.{combine, gather, starting, free, fixed, standing, extreme-of, extreme, towards, refuted-at, refuted, first-due, says}
 use Rattle.meaning.specs.Examples.{minus, _on_, sentence, m3}
 use Rattle.meaning.specs.Represents.{Represents, IsMerged, merged-comparison}
-use Rattle.meaning.proofs.Orders.{is-true, is-false, combine-comm, empty-combine}
+use Rattle.meaning.proofs.Orders.{combine-comm, empty-combine}
 use Rattle.meaning.proofs.Gather.{each-map, gather-last, raised-zero, raised-starting}
 use Rattle.meaning.proofs.Verdicts.{conflict-test}
 use Rattle.meaning.proofs.Says.{says-right}
@@ -39,41 +40,25 @@ count-stored = (refl, refl)
 
 -- ---- the constant and the bound
 
-same-test : (p q : Bool) → (T p → T q) → (T q → T p) → p ≡ q
-same-test true q f g = sym (is-true (f tt))
-same-test false q f g = sym (is-false g)
-
 comparison-raised : (s : Side) (b c : ℤ) (v : Extended) → comparison s b (raised c v) ≡ comparison s (b -ℤ c) v
-comparison-raised lower b c below = refl
-comparison-raised lower b c (at z) =
+comparison-raised s b c below = elim s [ lower ↦ refl | upper ↦ refl ]
+comparison-raised s b c (at z) =
     let p = sum-parts c z in
     let q = sum-parts b (negℤ c) in
     let o = neg-parts c in
-    same-test (leZ b (c +ℤ z)) (leZ (b -ℤ c) z) (λ h. omega ints) (λ h. omega ints)
-comparison-raised lower b c above = refl
-comparison-raised upper b c below = refl
-comparison-raised upper b c (at z) =
-    let p = sum-parts c z in
-    let q = sum-parts b (negℤ c) in
-    let o = neg-parts c in
-    same-test (leZ (c +ℤ z) b) (leZ z (b -ℤ c)) (λ h. omega ints) (λ h. omega ints)
-comparison-raised upper b c above = refl
+    elim s [
+      | lower ↦ same-test (leZ b (c +ℤ z)) (leZ (b -ℤ c) z) (λ h. omega ints) (λ h. omega ints)
+      | upper ↦ same-test (leZ (c +ℤ z) b) (leZ z (b -ℤ c)) (λ h. omega ints) (λ h. omega ints)
+    ]
+comparison-raised s b c above = elim s [ lower ↦ refl | upper ↦ refl ]
 
 -- ---- when it is satisfied
 
 members-merged : (k : Kind) (es : List Entry) → members (merged-kind k) es ≡ es
-members-merged sum es = refl
-members-merged product es = refl
-members-merged count es = refl
-members-merged maximum es = refl
-members-merged minimum es = refl
+members-merged k es = elim k [ sum ↦ refl | product ↦ refl | count ↦ refl | maximum ↦ refl | minimum ↦ refl ]
 
 aggregate-merged : (k : Kind) (ws : List ℤ) → aggregate (merged-kind k) ws ≡ aggregate k ws
-aggregate-merged sum ws = refl
-aggregate-merged product ws = refl
-aggregate-merged count ws = refl
-aggregate-merged maximum ws = refl
-aggregate-merged minimum ws = refl
+aggregate-merged k ws = elim k [ sum ↦ refl | product ↦ refl | count ↦ refl | maximum ↦ refl | minimum ↦ refl ]
 
 value-merged : (r : Rule) (σ : Assignment) → value (as-sentence r) σ ≡ aggregate (merged-kind (r .kind)) (chosen σ (r .set .entries))
 unfolding value
@@ -81,8 +66,7 @@ value-merged r σ = ap (λ es. aggregate (merged-kind (r .kind)) (chosen σ es))
 
 same-comparison : (r : Rule) (σ : Assignment) → comparison (r .side) (as-sentence r .bound) (value (as-sentence r) σ) ≡ merged-comparison r σ
 unfolding merged-value
-same-comparison r σ =
-    ap (comparison (r .side) (as-sentence r .bound)) (value-merged r σ ∙ aggregate-merged (r .kind) (chosen σ (r .set .entries)))
+same-comparison r σ = ap (comparison (r .side) (as-sentence r .bound)) (value-merged r σ ∙ aggregate-merged (r .kind) (chosen σ (r .set .entries)))
     ∙ sym (comparison-raised (r .side) (r .bound) (r .set .constant) (aggregate (r .kind) (chosen σ (r .set .entries))))
 
 -- a rule's sentence is satisfied exactly where the head has the truth of that comparison
@@ -109,11 +93,7 @@ abbrev lowered : Rule → Rule
 lowered r = rule-with (as-sentence r) (bare r)
 
 pub weighable-merged : (k : Kind) (w : ℤ) → T (weighable k w) → T (weighable (merged-kind k) w)
-weighable-merged sum w h = h
-weighable-merged product w h = h
-weighable-merged count w h = h
-weighable-merged maximum w h = h
-weighable-merged minimum w h = h
+weighable-merged k w = elim k [ sum ↦ λ h. h | product ↦ λ h. h | count ↦ λ h. h | maximum ↦ λ h. h | minimum ↦ λ h. h ]
 
 bare-represents : (r : Rule) → IsMerged r → Represents (as-sentence r) (bare r)
 unfolding merged-value
@@ -137,11 +117,7 @@ gather-count f v (e ∷ es) = gather-count f (combine sum v (f e)) es
 
 gather-merged : (k : Kind) (d : Direction) (t : List ℤ) (es : List Entry)
     → gather k (extreme-of k d t) (empty k) es ≡ gather (merged-kind k) (extreme-of (merged-kind k) d t) (starting (merged-kind k) (pos 0)) es
-gather-merged sum d t es = refl
-gather-merged product d t es = refl
-gather-merged count d t es = gather-count (extreme-of sum d t) (empty sum) es
-gather-merged maximum d t es = refl
-gather-merged minimum d t es = refl
+gather-merged k d t es = elim k [ sum ↦ refl | product ↦ refl | count ↦ gather-count (extreme-of sum d t) (empty sum) es | maximum ↦ refl | minimum ↦ refl ]
 
 -- a fold that starts at the constant ends further up by the constant
 extreme-raised : (d : Direction) (r : Rule) (t : List ℤ) → IsMerged r → extreme d r t ≡ raised (r .set .constant) (extreme d (lowered r) t)
@@ -157,19 +133,15 @@ extreme-raised d r t m =
 
 module _ (r : Rule) (m : IsMerged r) where
   refuted-lowered : (t : List ℤ) → refuted r t ≡ refuted (lowered r) t
-  refuted-lowered t = go (standing t (r .head))
-    where
-      go : (x : Standing) → refuted-at r t x ≡ refuted-at (lowered r) t x
-      go free = refl
-      go (fixed b) =
-          let d = towards (r .side) b in
-          ap (λ c. not (Bool·beq b c))
-          (ap (comparison (r .side) (r .bound)) (extreme-raised d r t m) ∙ comparison-raised (r .side) (r .bound) (r .set .constant) (extreme d (lowered r) t))
+  refuted-lowered t = elim (standing t (r .head)) as (λ x. refuted-at r t x ≡ refuted-at (lowered r) t x) [
+    | free ↦ refl
+    | fixed b ↦ ap (λ c. not (Bool·beq b c)) (ap (comparison (r .side) (r .bound)) (extreme-raised (towards (r .side) b) r t m)
+        ∙ comparison-raised (r .side) (r .bound) (r .set .constant) (extreme (towards (r .side) b) (lowered r) t))
+  ]
 
   -- a trail conflicts with the rule's sentence exactly when the test says so
   pub conflict-stored : (t : List ℤ) → Consistent t → (Conflict (as-sentence r) t → T (refuted r t)) × (T (refuted r t) → Conflict (as-sentence r) t)
-  conflict-stored t c =
-      subst (λ b. (Conflict (as-sentence r) t → T b) × (T b → Conflict (as-sentence r) t)) (sym (refuted-lowered t))
+  conflict-stored t c = subst (λ b. (Conflict (as-sentence r) t → T b) × (T b → Conflict (as-sentence r) t)) (sym (refuted-lowered t))
       (conflict-test (as-sentence r) (bare r) t (bare-represents r m) c)
 
   first-due-lowered : (t : List ℤ) (atoms : List ℕ) → first-due r t atoms ≡ first-due (lowered r) t atoms
@@ -183,8 +155,7 @@ module _ (r : Rule) (m : IsMerged r) where
 
   -- and the rule says first what its sentence does
   pub says-stored : 1 ≤ r .head → (t : List ℤ) → Consistent t → Says (as-sentence r) t (scope r) (says r t)
-  says-stored low t c =
-      subst (Says (as-sentence r) t (scope r)) (sym (says-lowered t)) (says-right (as-sentence r) (bare r) t (bare-represents r m) low c)
+  says-stored low t c = subst (Says (as-sentence r) t (scope r)) (sym (says-lowered t)) (says-right (as-sentence r) (bare r) t (bare-represents r m) low c)
 
   -- ---- the rule's sentence, stored: its merge leaves the entries as they are
 

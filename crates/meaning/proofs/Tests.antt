@@ -18,8 +18,7 @@ use Rattle.meaning.proofs.Members.{same→eq}
 
 pub consistent-is : (t : List ℤ) → T (consistent t) → Consistent t
 consistent-is [] h = ((λ a. false), tt)
-consistent-is (l ∷ t) h =
-    go (standing t (atom l)) refl (and-first (allows (standing t (atom l)) l) (consistent t) h)
+consistent-is (l ∷ t) h = go (standing t (atom l)) refl (and-first (allows (standing t (atom l)) l) (consistent t) h)
     (consistent-is t (and-second (allows (standing t (atom l)) l) (consistent t) h))
   where
     go : (x : Standing) → standing t (atom l) ≡ x → T (allows x l) → Consistent t → Consistent (l ∷ t)
@@ -33,11 +32,9 @@ every-is p P f [] h = tt
 every-is p P f (x ∷ xs) h = (f x (and-first (p x) (every p xs) h), every-is p P f xs (and-second (p x) (every p xs) h))
 
 agreeing-is : (e x : Entry) → T (agreeing e x) → place x ≡ place e → x .literal ≡ e .literal
-agreeing-is e x h q = same→eq (x .literal) (e .literal) (go (eqb (place x) (place e)) (subst (λ a. T (eqb (place x) a)) q (eqb-refl (place x))) h)
-  where
-    go : (b : Bool) → T b → T (cond b (same (x .literal) (e .literal)) true) → T (same (x .literal) (e .literal))
-    go true t h = h
-    go false t h = absurd t
+agreeing-is e x h q = same→eq (x .literal) (e .literal)
+    ((elim (eqb (place x) (place e)) as (λ b. T b → T (cond b (same (x .literal) (e .literal)) true) → T (same (x .literal) (e .literal)))
+    [ true ↦ λ t h. h | false ↦ λ t. absurd t ]) (subst (λ a. T (eqb (place x) a)) q (eqb-refl (place x))) h)
 
 one-signed-is : (es : List Entry) → T (one-signed es) → OneSigned es
 one-signed-is [] h = tt
@@ -47,11 +44,8 @@ one-signed-is (e ∷ es) h = (
 )
 
 signs-is : (k : Kind) (es : List Entry) → T (signs k es) → T (not (mixes k)) → OneSigned es
-signs-is k es h n = one-signed-is es (go (mixes k) h n)
-  where
-    go : (b : Bool) → T (cond b true (one-signed es)) → T (not b) → T (one-signed es)
-    go true h n = absurd n
-    go false h n = h
+signs-is k es h n =
+    one-signed-is es ((elim (mixes k) as (λ b. T (cond b true (one-signed es)) → T (not b) → T (one-signed es)) [ true ↦ λ h n. absurd n | false ↦ λ h n. h ]) h n)
 
 pub admissible-is : (s : Sentence) → T (admissible s) → Admissible s
 admissible-is s h =
@@ -77,12 +71,6 @@ pub same-value-is : (v w : Extended) → T (same-value v w) → v ≡ w
 same-value-is v w h = leE-antisym v w (and-first (leE v w) (leE w v) h) (and-second (leE v w) (leE w v) h)
 
 pub same-said-is : (x y : Said) → T (same-said x y) → x ≡ y
-same-said-is silent silent h = refl
-same-said-is silent conflict h = absurd h
-same-said-is silent (forced m) h = absurd h
-same-said-is conflict silent h = absurd h
-same-said-is conflict conflict h = refl
-same-said-is conflict (forced m) h = absurd h
-same-said-is (forced l) silent h = absurd h
-same-said-is (forced l) conflict h = absurd h
-same-said-is (forced l) (forced m) h = ap forced (same→eq l m h)
+same-said-is silent y = elim y [ silent ↦ λ h. refl | conflict ↦ absurd | forced m ↦ absurd ]
+same-said-is conflict y = elim y [ silent ↦ absurd | conflict ↦ λ h. refl | forced m ↦ absurd ]
+same-said-is (forced l) y = elim y [ silent ↦ absurd | conflict ↦ absurd | forced m ↦ λ h. ap forced (same→eq l m h) ]

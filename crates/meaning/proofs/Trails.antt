@@ -2,14 +2,16 @@
 -- a consistent trail can be put on.
 use mathlib.Core.Path.{_≡_, refl, sym, _∙_, ap, subst}
 use mathlib.Core.Bool.{Bool, true, false, not, cond, true≢false}
-use mathlib.Core.Logic.{_⊎_, inl, inr}
+use mathlib.Core.Logic.{_⊎_, inl, inr, ⊎-elim}
 use mathlib.Core.List.{List, [], _∷_}
-use Prim.Native.Nat.{ℕ, zero, suc, _≤_}
+use Prim.Native.Nat.{ℕ, zero, suc, _/_, _≤_, _<_}
 use native.Mathlib.Omega.{arith}
 use native.Mathlib.Decide.{ℕ-discrete}
-use lib.IntN.{ℤ, pos, negsuc, negℤ}
+use lib.IntN.{ℤ, pos, negsuc, negℤ, natAbs}
 use lib.Dec.{T, eqb, eqb→eq}
 use borrow.Author.Tests.{eq-eqb, ne-eqb}
+use Rattle.numbers.specs.Words.{literal-of}
+use Rattle.numbers.proofs.Words.{cases, literal-none, literal-atom}
 use Rattle.meaning.specs.Meaning.{Assignment, atom, truth, holds, Agrees, Consistent, On}
 use Rattle.meaning.specs.Computed.{Standing, free, fixed, standing, is-free}
 
@@ -22,8 +24,18 @@ truth-wanted (negsuc n) true e = sym e
 truth-wanted (negsuc n) false e = refl
 
 pub truth-settable : (l : ℤ) → truth l (truth l true) ≡ true
-truth-settable (pos a) = refl
-truth-settable (negsuc a) = refl
+truth-settable l = elim l [ pos a ↦ refl | negsuc a ↦ refl ]
+
+pub atom-size : (l : ℤ) → atom l ≡ natAbs l
+atom-size l = elim l [ pos a ↦ refl | negsuc a ↦ refl ]
+
+-- of every word: 0 and 1 are of no atom
+pub atom-half : (w : ℕ) → atom (literal-of w) ≡ w / 2
+atom-half w =
+    ⊎-elim (λ (p : 2 ≤ w). atom-size (literal-of w) ∙ literal-atom w p) (λ (p : w < 2). ap {A = ℤ} atom (literal-none w p) ∙ omega arith) (cases w 2)
+
+pub literal-low : (w : ℕ) → 1 ≤ atom (literal-of w) → 2 ≤ w
+literal-low w h = omega (arith, atom-half w)
 
 pub opposite-atom : (l : ℤ) → atom (negℤ l) ≡ atom l
 opposite-atom (pos zero) = refl
@@ -60,8 +72,7 @@ pub fixed-injective : {b c : Bool} → fixed b ≡ fixed c → b ≡ c
 fixed-injective e = cc
 
 pub is-free-of : (s : Standing) → T (is-free s) → s ≡ free
-is-free-of free h = refl
-is-free-of (fixed b) h = absurd h
+is-free-of s = elim s [ free ↦ λ h. refl | fixed b ↦ absurd ]
 
 pub standing-same : (l : ℤ) (t : List ℤ) → standing (l ∷ t) (atom l) ≡ fixed (truth l true)
 unfolding standing
@@ -74,11 +85,9 @@ standing-other l t a n = ap (λ c. cond c (fixed (truth l true)) (standing t a))
 pub fixed-agrees : (σ : Assignment) (t : List ℤ) (a : ℕ) (b : Bool) → Agrees σ t → standing t a ≡ fixed b → σ a ≡ b
 unfolding standing
 fixed-agrees σ [] a b g e = absurd (free-fixed e)
-fixed-agrees σ (l ∷ t) a b g e = go (eqb (atom l) a) (λ c. eqb→eq (atom l) a c) (fixed-agrees σ t a b (g .1)) e
-  where
-    go : (c : Bool) → (T c → atom l ≡ a) → (standing t a ≡ fixed b → σ a ≡ b) → cond c (fixed (truth l true)) (standing t a) ≡ fixed b → σ a ≡ b
-    go true same ih e = ap σ (sym (same tt)) ∙ truth-wanted l (σ (atom l)) (g .0) ∙ fixed-injective e
-    go false same ih e = ih e
+fixed-agrees σ (l ∷ t) a b g e = elim (eqb (atom l) a) as (λ c. (T c → atom l ≡ a) → cond c (fixed (truth l true)) (standing t a) ≡ fixed b → σ a ≡ b)
+    [ true ↦ λ same e. ap σ (sym (same tt)) ∙ truth-wanted l (σ (atom l)) (g .0) ∙ fixed-injective e | false ↦ λ same e. fixed-agrees σ t a b (g .1) e ]
+    (eqb→eq (atom l) a) e
 
 -- ---- an atom is on the trail, or free
 
@@ -97,19 +106,15 @@ free-off (l ∷ t) a e o = go (ℕ-discrete (atom l) a) (λ g. free-off t a g) o
     go (no n) ih (inr h) = ih (sym (standing-other l t a (λ q. n (sym q))) ∙ e) h
 
 pub on-fixed : (t : List ℤ) (a : ℕ) → On a t → (b : Bool) × (standing t a ≡ fixed b)
-on-fixed t a o = go (standing t a) refl
-  where
-    go : (s : Standing) → standing t a ≡ s → (b : Bool) × (standing t a ≡ fixed b)
-    go free e = absurd (free-off t a e o)
-    go (fixed b) e = (b, e)
+on-fixed t a o =
+    elim (standing t a) as (λ s. standing t a ≡ s → (b : Bool) × (standing t a ≡ fixed b)) [ free ↦ λ e. absurd (free-off t a e o) | fixed b ↦ λ e. (b, e) ] refl
 
 -- ---- assignments that agree
 
 -- one with the truths of an agreeing one at the trail's atoms agrees too
 pub agrees-from : (σ τ : Assignment) (t : List ℤ) → ((a : ℕ) → On a t → τ a ≡ σ a) → Agrees σ t → Agrees τ t
 agrees-from σ τ [] same g = tt
-agrees-from σ τ (l ∷ t) same g =
-    (ap (truth l) (same (atom l) (inl refl)) ∙ g .0, agrees-from σ τ t (λ a h. same a (inr h)) (g .1))
+agrees-from σ τ (l ∷ t) same g = (ap (truth l) (same (atom l) (inl refl)) ∙ g .0, agrees-from σ τ t (λ a h. same a (inr h)) (g .1))
 
 -- one atom set anew
 abbrev pub with-atom : Assignment → ℕ → Bool → Assignment

@@ -19,26 +19,20 @@ use Rattle.meaning.proofs.Extremes.{extreme-bounds, extreme-attained, v
 -- ---- tests
 
 pub and-first : (a b : Bool) → T (a && b) → T a
-and-first true b h = tt
-and-first false b h = h
+and-first a b = elim a [ true ↦ λ h. tt | false ↦ λ h. h ]
 
 pub and-second : (a b : Bool) → T (a && b) → T b
-and-second true b h = h
-and-second false b h = absurd h
+and-second a b = elim a [ true ↦ λ h. h | false ↦ absurd ]
 
 pub and-both : (a b : Bool) → T a → T b → T (a && b)
-and-both true b h k = k
-and-both false b h k = h
+and-both a b = elim a [ true ↦ λ h k. k | false ↦ λ h k. h ]
 
 beq-same : (b : Bool) → T (not (Bool·beq b b)) → ⊥
-beq-same true h = h
-beq-same false h = h
+beq-same b = elim b [ true ↦ λ h. h | false ↦ λ h. h ]
 
 beq-equal : (b c : Bool) → ¬ (T (not (Bool·beq b c))) → b ≡ c
-beq-equal true true n = refl
-beq-equal true false n = absurd (n tt)
-beq-equal false true n = absurd (n tt)
-beq-equal false false n = refl
+beq-equal true c = elim c [ true ↦ λ n. refl | false ↦ λ n. absurd (n tt) ]
+beq-equal false c = elim c [ true ↦ λ n. absurd (n tt) | false ↦ λ n. refl ]
 
 -- ---- conflict
 
@@ -52,10 +46,8 @@ module _ (s : Sentence) (m : Merged) (t : List ℤ) (p : Represents s m) where
       go : (x : Standing) → standing t (s .head) ≡ x → T (refuted-at (rule-with s m) t x) → ⊥
       go free e h = h
       go (fixed b) e h =
-          let reached : compared (rule-with s m) (at-extreme b) ≡ b =
-          towards-keeps (s .side) (s .bound) b (value s σ) (at-extreme b)
-          (sym sat ∙ fixed-agrees σ t (s .head) b g e)
-          (extreme-bounds (towards (s .side) b) s m t p σ g) in
+          let reached : compared (rule-with s m) (at-extreme b) ≡ b = towards-keeps (s .side) (s .bound) b (value s σ) (at-extreme b)
+          (sym sat ∙ fixed-agrees σ t (s .head) b g e) (extreme-bounds (towards (s .side) b) s m t p σ g) in
           beq-same b (subst (λ c. T (not (Bool·beq b c))) reached h)
 
   -- a free head takes the comparison's truth, and otherwise the assignment that attains the extreme satisfies
@@ -75,11 +67,8 @@ module _ (s : Sentence) (m : Merged) (t : List ℤ) (p : Represents s m) where
           (τ .0, τ .1, fixed-agrees (τ .0) t (s .head) b (τ .1) e ∙ beq-equal b (compared (rule-with s m) (at-extreme b)) n ∙ ap (compared (rule-with s m)) (sym (τ .2)))
 
   pub conflict-refuted : Consistent t → Conflict s t → T (refuted (rule-with s m) t)
-  conflict-refuted c f = go (refuted (rule-with s m) t) (satisfiable-test c)
-    where
-      go : (x : Bool) → (¬ (T x) → Satisfiable s t) → T x
-      go true h = tt
-      go false h = let σ : Satisfiable s t = h (λ x. x) in f (σ .0) (σ .1) (σ .2)
+  conflict-refuted c f = elim (refuted (rule-with s m) t) as (λ x. (¬ (T x) → Satisfiable s t) → T x)
+      [ true ↦ λ h. tt | false ↦ λ h. let σ : Satisfiable s t = h (λ x. x) in f (σ .0) (σ .1) (σ .2) ] (satisfiable-test c)
 
   -- a trail conflicts with a sentence exactly when the test says so
   pub conflict-test : Consistent t → (Conflict s t → T (refuted (rule-with s m) t)) × (T (refuted (rule-with s m) t) → Conflict s t)
@@ -89,8 +78,7 @@ module _ (s : Sentence) (m : Merged) (t : List ℤ) (p : Represents s m) where
 
 module _ (s : Sentence) (t : List ℤ) (l : ℤ) (n : 1 ≤ atom l) where
   one-or-other : (b c : Bool) → c ≡ not b → ¬ (c ≡ true) → b ≡ true
-  one-or-other true c e h = refl
-  one-or-other false c e h = absurd (h e)
+  one-or-other b c = elim b [ true ↦ λ e h. refl | false ↦ λ e h. absurd (h e) ]
 
   -- a literal is forced exactly when its opposite, put on, conflicts
   pub forced-conflict : Forced s t l → Conflict s (negℤ l ∷ t)
@@ -105,8 +93,7 @@ opposite-off l t n o = n (subst (λ a. On a t) (opposite-atom l) o)
 -- an open literal is forced exactly when the test refutes its opposite
 pub due-test : (s : Sentence) (m : Merged) (t : List ℤ) (l : ℤ) → 1 ≤ atom l → Represents s m → Consistent t → ((Open t l × Forced s t l) → T (due (rule-with s m) t l)) × (T (due (rule-with s m) t l) → Open t l × Forced s t l)
 due-test s m t l n p c = (
-  λ h. and-both open-test refuted-test
-      (subst (λ x. T (is-free x)) (sym (off-free t (atom l) (h .0 .off))) tt)
+  λ h. and-both open-test refuted-test (subst (λ x. T (is-free x)) (sym (off-free t (atom l) (h .0 .off))) tt)
       (conflict-refuted s m (negℤ l ∷ t) p (put-on (negℤ l) t (opposite-off l t (h .0 .off)) c) (forced-conflict s t l n (h .1))),
   λ h. (
     record { literal = n; off = free-off t (atom l) (is-free-of (standing t (atom l)) (and-first open-test refuted-test h)) },
@@ -124,16 +111,13 @@ due-test s m t l n p c = (
 
 -- outside the rule: the test is the trail's own
 pub refuted-outside : (r : Rule) (t : List ℤ) (l : ℤ) → ¬ (r .head ≡ atom l) → Off (atom l) (r .set .entries) → refuted r (l ∷ t) ≡ refuted r t
-refuted-outside r t l n off = ap (refuted-at r (l ∷ t)) (standing-other l t (r .head) n) ∙ go (standing t (r .head))
-  where
-    go : (x : Standing) → refuted-at r (l ∷ t) x ≡ refuted-at r t x
-    go free = refl
-    go (fixed b) = ap (λ v. not (Bool·beq b (compared r v))) (extreme-outside (towards (r .side) b) r l t off)
+refuted-outside r t l n off = ap (refuted-at r (l ∷ t)) (standing-other l t (r .head) n)
+    ∙ (elim (standing t (r .head)) as (λ x. refuted-at r (l ∷ t) x ≡ refuted-at r t x)
+    [ free ↦ refl | fixed b ↦ ap (λ v. not (Bool·beq b (compared r v))) (extreme-outside (towards (r .side) b) r l t off) ])
 
 -- the head: the comparison does not have the literal's truth even at the extreme towards it
 pub refuted-head : (r : Rule) (t : List ℤ) (l : ℤ) → atom l ≡ r .head → Off (r .head) (r .set .entries) → refuted r (l ∷ t) ≡ not (Bool·beq (truth l true) (compared r (extreme (towards (r .side) (truth l true)) r t)))
-refuted-head r t l e off =
-    ap (λ a. refuted-at r (l ∷ t) (standing (l ∷ t) a)) (sym e) ∙ ap (refuted-at r (l ∷ t)) (standing-same l t)
+refuted-head r t l e off = ap (λ a. refuted-at r (l ∷ t) (standing (l ∷ t) a)) (sym e) ∙ ap (refuted-at r (l ∷ t)) (standing-same l t)
     ∙ ap (λ v. not (Bool·beq (truth l true) (compared r v))) (extreme-outside (towards (r .side) (truth l true)) r l t (subst (λ a. Off a (r .set .entries)) (sym e) off))
 
 -- another atom, with the head free: nothing is refuted
