@@ -116,8 +116,10 @@ near (negsuc n) m p q = omega arith
 pub sum-size : (a b : ℤ) → natAbs (a +ℤ b) ≤ natAbs a + natAbs b
 sum-size a b = let p = sum-parts a b in near (a +ℤ b) (natAbs a + natAbs b) (omega (ints, size-parts a, size-parts b)) (omega (ints, size-parts a, size-parts b))
 
-pub neg-size : (a : ℤ) → natAbs (negℤ a) ≤ natAbs a
-neg-size a = near (negℤ a) (natAbs a) (omega (ints, size-parts a, neg-parts a)) (omega (ints, size-parts a, neg-parts a))
+pub neg-size : (a : ℤ) → natAbs (negℤ a) ≡ natAbs a
+neg-size (pos zero) = refl
+neg-size (pos (suc n)) = refl
+neg-size (negsuc n) = refl
 
 -- ---- the product is associative, which the library lacks
 
