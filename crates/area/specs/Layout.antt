@@ -130,11 +130,15 @@ constant-of count x = unbias x
 constant-of maximum x = pos 0
 constant-of minimum x = pos 0
 
--- entries, from their words: weight, literal
+-- the entry of two words: weight, literal
+abbrev pub entry-of : ℕ → ℕ → Entry
+entry-of x l = record { weight = unbias x; literal = literal-of l }
+
+-- entries, from their words
 unfoldable pub entries-of : List ℕ → List Entry
 entries-of [] = []
 entries-of (x ∷ []) = []
-entries-of (x ∷ l ∷ rest) = record { weight = unbias x; literal = literal-of l } ∷ entries-of rest
+entries-of (x ∷ l ∷ rest) = entry-of x l ∷ entries-of rest
 
 -- where the entries of the sentence at b start, S sentences in all
 abbrev pub entry-at : List ℕ → ℕ → ℕ → ℕ → ℕ
