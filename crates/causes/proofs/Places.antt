@@ -13,7 +13,7 @@ use Rattle.meaning.specs.Merge.{places, scope}
 use Rattle.book.specs.Rows.{pick, causes}
 use Rattle.area.specs.Layout.{word, merged-at, entry-at, rule-at}
 use Rattle.area.specs.Whole.{EntryWhole}
-use Rattle.sentence.specs.Sentence.{Ready}
+use Rattle.extremes.specs.Stored.{Ready}
 use Rattle.theory_check.proofs.Listing.{entries-length}
 use Rattle.theory_check.proofs.Scope.{scope-entry}
 use Rattle.causes.specs.Causes.{AtomAt}

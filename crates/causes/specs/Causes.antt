@@ -9,7 +9,7 @@ use Rattle.book.specs.Rows.{trail, pick, row-of, any}
 use Rattle.area.specs.Layout.{value-at, row-at, rows-from, value-word}
 use Rattle.area.specs.Whole.{AtomsOnce}
 use Rattle.trail_check.specs.Places.{Room}
-use Rattle.sentence.specs.Sentence.{Ready}
+use Rattle.extremes.specs.Stored.{Ready}
 
 -- ---- what is asked
 

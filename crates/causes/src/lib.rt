@@ -5,7 +5,7 @@ ghost use lib.ListN.{getD};
 ghost use Rattle.meaning.specs.Meaning.{atom};
 ghost use Rattle.meaning.specs.Merge.{scope};
 ghost use Rattle.area.specs.Layout.{sign, merged-at, rule-at};
-ghost use Rattle.sentence.specs.Sentence.{Ready};
+ghost use Rattle.extremes.specs.Stored.{Ready};
 ghost use Rattle.causes.specs.Causes.{TrailAsked, CausesAsked, AtomAt, CauseAt, PositionIs};
 
 // The atom at a place of the sentence whose eight words start at `base`: 0 its head, j its merged entry j from 1.

@@ -14,7 +14,8 @@ use Rattle.area.specs.Layout.{atoms-of, sentences-of, rows-from, rows-of, recor
 use Rattle.area.specs.Whole.{Whole}
 use Rattle.sentence.specs.declared.Said.{Said}
 use Rattle.sentence.specs.declared.Said.the-variants.{Silent, Conflict, Forced}
-use Rattle.sentence.specs.Sentence.{Shows, SaidIs, said-of}
+use Rattle.extremes.specs.Stored.{Shows}
+use Rattle.sentence.specs.Sentence.{SaidIs, said-of}
 use Rattle.trail_check.proofs.Shown.{shows}
 use Rattle.whole.proofs.Join.{parts}
 use Rattle.whole.proofs.Gives.{numbered-rule}

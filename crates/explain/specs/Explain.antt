@@ -10,7 +10,7 @@ use Rattle.meaning.specs.Computed.{says}
 use Rattle.book.specs.Rows.{causes}
 use Rattle.book.specs.Table.{is-conflict}
 use Rattle.area.specs.Layout.{least-at, greatest-at, rule-at}
-use Rattle.sentence.specs.Sentence.{Shows, Ready, ExtremesAre}
+use Rattle.extremes.specs.Stored.{Shows, Ready, ExtremesAre}
 use Rattle.causes.specs.Causes.{before}
 
 -- of the sentence at b, of n atoms and S sentences, over the first `limit` rows

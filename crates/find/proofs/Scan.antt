@@ -11,10 +11,13 @@ use Rattle.sentence.specs.declared.Body.{Body}
 use Rattle.sentence.specs.declared.Known.{Known}
 use Rattle.sentence.specs.declared.Known.the-variants.{Conflict, Forced, Undecided}
 use Rattle.sentence.specs.Sentence.{said-of}
-use Rattle.sentence.specs.Words.{empty-word, weight-in, literal-in, wanted-word, scanned}
-use Rattle.sentence.specs.Room.{Entries, Turns}
+use Rattle.extremes.specs.Words.{empty-word, weight-in, literal-in}
+use Rattle.sentence.specs.Words.{wanted-word, scanned}
+use Rattle.extremes.specs.Room.{Entries}
+use Rattle.sentence.specs.Room.{Turns}
 use Rattle.sentence.specs.Known.{turns-open, known-says, BodyReady}
-use Rattle.sentence.proofs.Loops.{Scanning, words-from, scanning-starts, scanning-turns, scanning-found, scanning-next, scanning-ends}
+use Rattle.extremes.proofs.Loops.{words-from}
+use Rattle.sentence.proofs.Loops.{Scanning, scanning-starts, scanning-turns, scanning-found, scanning-next, scanning-ends}
 use Rattle.sentence.proofs.Puts.{wanted-is}
 use Rattle.theory_check.proofs.Scope.{scope-entry}
 use Rattle.find.specs.declared.Found.{Found}

@@ -14,11 +14,11 @@ use Rattle.area.specs.Layout.{word, atoms-of, sentences-of, rows-from, rows-of,
 use Rattle.area.specs.Whole.{BoundsMatch}
 use Rattle.sentence.specs.declared.Known.{Known}
 use Rattle.sentence.specs.declared.Known.the-variants.{Silent}
-use Rattle.sentence.specs.Sentence.{Shows, Ready, ExtremesAre}
-use Rattle.sentence.specs.Words.{extreme-word}
+use Rattle.extremes.specs.Stored.{Shows, Ready, ExtremesAre}
+use Rattle.extremes.specs.Words.{extreme-word}
 use Rattle.sentence.specs.Known.{KnownIs}
-use Rattle.sentence.proofs.Results.{coded, meant-coded}
-use Rattle.sentence.proofs.Stored.{folds-extremes}
+use Rattle.extremes.proofs.Values.{coded, meant-coded}
+use Rattle.extremes.proofs.Stored.{folds-extremes}
 use Rattle.trail_check.proofs.Shown.{shows}
 use Rattle.whole.specs.Parts.{counters}
 use Rattle.whole.proofs.Join.{parts}

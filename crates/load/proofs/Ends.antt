@@ -16,7 +16,7 @@ use Rattle.meaning.specs.Computed.{standing}
 use Rattle.book.specs.Book.{rules-of}
 use Rattle.area.specs.Layout.{word, atoms-of, sentences-of, level-of, rows-from, rows-of, value-word, record-at, written-at, rules-from, entries-before}
 use Rattle.area.specs.Whole.{Whole}
-use Rattle.sentence.specs.Sentence.{Shows, standing-word}
+use Rattle.extremes.specs.Stored.{Shows, standing-word}
 use Rattle.trail_check.specs.Trail.{HeaderOk, TrailOk}
 use Rattle.theory_check.specs.Theory.{PlacesOk, SentenceOk}
 use Rattle.theory_check.proofs.Places.{none-before, one-more}

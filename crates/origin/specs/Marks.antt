@@ -8,7 +8,7 @@ use Rattle.meaning.specs.Merge.{scope}
 use Rattle.book.specs.Rows.{trail, causes}
 use Rattle.book.specs.Means.{Among}
 use Rattle.area.specs.Layout.{row-at, rows-from, record-at, rule-at}
-use Rattle.sentence.specs.Sentence.{Ready}
+use Rattle.extremes.specs.Stored.{Ready}
 use Rattle.causes.specs.Causes.{TrailAsked}
 
 -- what marking from position p down asks of the area and the table of marks

@@ -17,7 +17,7 @@ use Rattle.meaning.proofs.Members.{each-both, places-each}
 use Rattle.meaning.proofs.Standing.{SameStanding, extreme-standing, says-standing}
 use Rattle.area.specs.Layout.{word, least-at, greatest-at, pending-at, rule-at}
 use Rattle.area.specs.Whole.{EntryWhole, RuleWhole}
-use Rattle.sentence.specs.Sentence.{Shows}
+use Rattle.extremes.specs.Stored.{Shows}
 use Rattle.whole.specs.Parts.{Matching}
 use Rattle.refresh.specs.Refresh.{AsBefore, Renewed}
 

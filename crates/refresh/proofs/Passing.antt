@@ -15,8 +15,8 @@ use Rattle.meaning.specs.Meaning.{Each}
 use Rattle.meaning.specs.Merge.{Rule, scope}
 use Rattle.meaning.specs.Computed.{extreme}
 use Rattle.area.specs.Layout.{word, record-at, rule-at}
-use Rattle.sentence.specs.declared.Extremes.{Extremes}
-use Rattle.sentence.specs.Sentence.{ExtremesAre}
+use Rattle.extremes.specs.declared.Extremes.{Extremes}
+use Rattle.extremes.specs.Stored.{ExtremesAre}
 use Rattle.theory_check.specs.Theory.{SentenceOk}
 use Rattle.theory_check.proofs.Places.{placed}
 use Rattle.whole.specs.Same.{SameRecord}

@@ -9,7 +9,7 @@ use lib.ListN.{length, set, length-set}
 use lib.Seq.{getD-set-same, getD-set-other}
 use borrow.Author.Tests.{le-leb}
 use Rattle.area.specs.Layout.{word, tag-at}
-use Rattle.sentence.specs.Sentence.{ExtremesAre}
+use Rattle.extremes.specs.Stored.{ExtremesAre}
 use Rattle.refresh.specs.Refresh.{Untouched}
 use Rattle.refresh.specs.One.{OneRefreshed}
 use Rattle.whole.proofs.Frame.{same-record}

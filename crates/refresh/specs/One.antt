@@ -5,7 +5,7 @@ use Prim.Native.Nat.{ℕ, _+_, _<_, _≤_}
 use lib.ListN.{length}
 use Rattle.types.specs.declared.Limits.{Limits}
 use Rattle.area.specs.Layout.{word, tag-at}
-use Rattle.sentence.specs.Sentence.{Evaluable}
+use Rattle.extremes.specs.Stored.{Evaluable}
 use Rattle.refresh.specs.Refresh.{SentenceRefreshed}
 
 -- the sentence at b can be evaluated, and the table has a number for each atom

@@ -12,7 +12,7 @@ use Rattle.meaning.specs.Meaning.{Each}
 use Rattle.meaning.specs.Merge.{scope}
 use Rattle.area.specs.Layout.{word, record-at, tag-at, pending-at, least-at, greatest-at, rule-at}
 use Rattle.theory_check.specs.Theory.{PlacesOk, SentenceOk}
-use Rattle.sentence.specs.Sentence.{ExtremesAre}
+use Rattle.extremes.specs.Stored.{ExtremesAre}
 use Rattle.whole.specs.Same.{SameRecord}
 
 -- the stored sentences are whole; the table has a number for each atom, not 0 where its value changed

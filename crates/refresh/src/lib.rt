@@ -35,7 +35,7 @@ fn refresh_one(area: &mut [u64], n: usize, count: usize, base: usize, touched: &
     if !touches(area, n, count, base, touched) {
         return;
     }
-    let found = sentence::extremes_of(area, n, count, base);
+    let found = extremes::extremes_of(area, n, count, base);
     let tag = area[base + 1];
     area[base + 4] = found.least;
     area[base + 5] = found.greatest;

@@ -1,5 +1,4 @@
--- A sentence in words, and its comparison at an extreme: the extreme on words stands for the extreme of the rule, and that the comparison
--- has a truth there is that the word reaches, or does not reach, the limit.
+-- A sentence's comparison at an extreme: that it has a truth there is that the extreme's word reaches, or does not reach, the limit.
 use mathlib.Core.Path.{_≡_, refl, sym, _∙_, ap}
 use mathlib.Core.Bool.{Bool, true, false, not, Bool·beq}
 use mathlib.Core.Logic.{⊎-elim}
@@ -12,53 +11,16 @@ use borrow.Author.Tests.{le-leb, lt-leb}
 use Rattle.numbers.specs.Extended.{leE}
 use Rattle.numbers.specs.Words.{top, unbias, unword}
 use Rattle.numbers.proofs.Words.{cases, unword-at, word-leb}
-use Rattle.meaning.specs.Meaning.{Side, comparison}
+use Rattle.meaning.specs.Meaning.{comparison}
 use Rattle.meaning.specs.Meaning as m
 use Rattle.meaning.specs.Merge.{Rule}
-use Rattle.meaning.specs.Computed.{starting, gather, extreme-of, extreme, towards, compared}
-use Rattle.meaning.specs.Represents.{Off}
-use Rattle.area.specs.Layout.{constant-of, entries-of}
-use Rattle.area.specs.Whole.{Once}
-use Rattle.sentence.specs.declared.Kind.{Kind}
-use Rattle.sentence.specs.declared.Kind.the-variants.{Sum, Product, Count, Max, Min}
-use Rattle.sentence.specs.Words.{meant, start-word, extreme-word, limit-word, upwards, keeps}
-use Rattle.sentence.specs.Room.{Rooms}
-use Rattle.sentence.proofs.Values.{direction, In, in-top, unword-empty}
-use Rattle.sentence.proofs.Contributions.{Legal, ShowsIn, folded-means, folded-in}
-
-abbrev pub sided : Bool → Side
-sided true = m.upper
-sided false = m.lower
-
--- the rule that the words of a sentence stand for
-abbrev pub rule-words : Kind → Bool → ℕ → ℕ → ℕ → ℕ → List ℕ → Rule
-rule-words k upper bound c head written words = record {
-  head = head;
-  kind = meant k;
-  side = sided upper;
-  bound = unbias bound;
-  set = record { constant = constant-of (meant k) c; entries = entries-of words };
-  written = written;
-}
-
--- the words are in range, and no fold over them wraps, whatever the values
-pub record Sound (n : ℕ) (k : Kind) (bound c head : ℕ) (words : List ℕ) : Type 0 where
-  pub legal : Legal k n words
-  pub once : Once (entries-of words)
-  pub headless : Off head (entries-of words)
-  pub start-in : In k (start-word k c)
-  pub rooms : (v : ℕ → ℕ) → Rooms k (start-word k c) v words
-  pub bound-low : 0 < bound
-  pub bound-high : bound < top
-  pub head-low : 1 ≤ head
-  pub head-high : head ≤ n
-
-starting-is : (k : Kind) (c : ℕ) → In k (start-word k c) → unword (start-word k c) ≡ starting (meant k) (constant-of (meant k) c)
-starting-is Sum c h = unword-at c (h .0) (h .1)
-starting-is Product c h = unword-empty Product
-starting-is Count c h = unword-at c (h .0) (h .1)
-starting-is Max c h = unword-empty Max
-starting-is Min c h = unword-empty Min
+use Rattle.meaning.specs.Computed.{extreme, towards, compared}
+use Rattle.extremes.specs.declared.Kind.{Kind}
+use Rattle.extremes.specs.Words.{extreme-word}
+use Rattle.extremes.proofs.Values.{direction, in-top}
+use Rattle.extremes.proofs.Contributions.{ShowsIn}
+use Rattle.extremes.proofs.Sound.{sided, rule-words, Sound, extreme-in, extreme-means}
+use Rattle.sentence.specs.Words.{limit-word, upwards, keeps}
 
 -- ---- the limit
 
@@ -100,20 +62,9 @@ towards-is true false = refl
 towards-is false true = refl
 towards-is false false = refl
 
--- ---- the extremes
-
 module _ (n : ℕ) (k : Kind) (upper : Bool) (bound c head written : ℕ) (words : List ℕ) (sound : Sound n k bound c head words) where
   abbrev R : Rule
   R = rule-words k upper bound c head written words
-
-  pub extreme-in : (u : Bool) (v : ℕ → ℕ) → In k (extreme-word k u v c words)
-  extreme-in u v = folded-in n k u v (start-word k c) words (sound .legal) (sound .start-in) (sound .rooms v u)
-
-  pub extreme-means : (u : Bool) (v : ℕ → ℕ) (t : List ℤ) → ShowsIn n v t → extreme (direction u) R t ≡ unword (extreme-word k u v c words)
-  unfolding extreme
-  extreme-means u v t sh =
-      sym (folded-means n k u v t sh (start-word k c) words (sound .legal) (sound .start-in) (sound .rooms v u)
-      ∙ ap (λ z. gather (meant k) (extreme-of (meant k) (direction u) t) z (entries-of words)) (starting-is k c (sound .start-in)))
 
   -- whether the comparison has the truth b at the extreme towards it
   pub kept-at : (b : Bool) (v : ℕ → ℕ) (t : List ℤ) → ShowsIn n v t
@@ -122,5 +73,5 @@ module _ (n : ℕ) (k : Kind) (upper : Bool) (bound c head written : ℕ) (words
       let u = upwards upper b in
       let e = extreme-word k u v c words in
       ap (λ d. Bool·beq b (compared R (extreme d R t))) (towards-is upper b)
-      ∙ ap (λ z. Bool·beq b (compared R z)) (extreme-means u v t sh)
-      ∙ keeps-is bound e (sound .bound-low) (sound .bound-high) (in-top k e (extreme-in u v)) upper b
+      ∙ ap (λ z. Bool·beq b (compared R z)) (extreme-means n k upper bound c head written words sound u v t sh)
+      ∙ keeps-is bound e (sound .bound-low) (sound .bound-high) (in-top k e (extreme-in n k upper bound c head written words sound u v)) upper b

@@ -19,19 +19,22 @@ use Rattle.meaning.specs.Computed.{free, fixed, standing, refuted-at, refuted, 
 use Rattle.meaning.proofs.Trails.{opposite-atom}
 use Rattle.meaning.proofs.Verdicts.{refuted-entry}
 use Rattle.area.specs.Layout.{entries-of}
-use Rattle.sentence.specs.declared.Kind.{Kind}
-use Rattle.sentence.specs.declared.Kind.the-variants.{Sum, Product, Count, Max, Min}
+use Rattle.extremes.specs.declared.Kind.{Kind}
+use Rattle.extremes.specs.declared.Kind.the-variants.{Sum, Product, Count, Max, Min}
 use Rattle.sentence.specs.declared.Said.{Said}
 use Rattle.sentence.specs.declared.Said.the-variants.{Silent, Conflict, Forced}
-use Rattle.sentence.specs.Sentence.{standing-word, said-of}
-use Rattle.sentence.specs.Words.{empty-word, best-kind, start-word, furthest-word, nearest-word, contributions, folded, extreme-word, second-best, second-word, limit-word, upwards, keeps, turns-word, opposite-word, wanted-word, scanned, leaves-second, entries-say, body-says}
-use Rattle.sentence.proofs.Contributions.{literal-place, ShowsIn}
+use Rattle.extremes.specs.Stored.{standing-word}
+use Rattle.sentence.specs.Sentence.{said-of}
+use Rattle.extremes.specs.Words.{empty-word, start-word, furthest-word, nearest-word, contributions, folded, extreme-word}
+use Rattle.sentence.specs.Words.{best-kind, second-best, second-word, limit-word, upwards, keeps, turns-word, opposite-word, wanted-word, scanned, leaves-second, entries-say, body-says}
+use Rattle.extremes.proofs.Contributions.{literal-place, ShowsIn}
 use Rattle.sentence.proofs.Swaps.{Swapped, same-swap}
 use Rattle.sentence.proofs.Turns.{turned-loses, second-silent}
 use Rattle.sentence.proofs.Ranges.{Agreeing, range-keeps}
 use Rattle.sentence.proofs.Puts.{opposite, opposite-literal, value-other, put, put-shows, Member, first, later, member-proper, member-off, put-swaps, wanted-is}
 use Rattle.sentence.proofs.Dues.{said-cond, and-false, passed-over, one-literal, set-undue, free-due}
-use Rattle.sentence.proofs.Comparisons.{rule-words, Sound, kept-at}
+use Rattle.extremes.proofs.Sound.{rule-words, Sound}
+use Rattle.sentence.proofs.Comparisons.{kept-at}
 
 -- a scan by any test of the weights
 scan-by : Kind → Bool → (ℕ → ℕ) → (ℕ → Bool) → List ℕ → Said

@@ -1,6 +1,4 @@
 pub mod Loops
-pub mod Values
-pub mod Contributions
 pub mod Swaps
 pub mod Seconds
 pub mod Turns
@@ -10,10 +8,6 @@ pub mod Comparisons
 pub mod Dues
 pub mod OpenHead
 pub mod FixedHead
-pub mod Bounded
-pub mod Whole
-pub mod Shown
-pub mod Stored
 pub mod Turnings
 pub mod Results
 pub mod Unscanned

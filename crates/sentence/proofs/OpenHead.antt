@@ -16,13 +16,16 @@ use Rattle.meaning.specs.Represents.{Off}
 use Rattle.meaning.proofs.Trails.{opposite-atom, opposite-truth}
 use Rattle.meaning.proofs.Verdicts.{refuted-head, refuted-headless}
 use Rattle.area.specs.Layout.{entries-of}
-use Rattle.sentence.specs.declared.Kind.{Kind}
+use Rattle.extremes.specs.declared.Kind.{Kind}
 use Rattle.sentence.specs.declared.Said.the-variants.{Silent, Forced}
-use Rattle.sentence.specs.Sentence.{standing-word, said-of}
-use Rattle.sentence.specs.Words.{extreme-word, limit-word, upwards, keeps, head-says}
-use Rattle.sentence.proofs.Contributions.{ShowsIn}
+use Rattle.extremes.specs.Stored.{standing-word}
+use Rattle.sentence.specs.Sentence.{said-of}
+use Rattle.extremes.specs.Words.{extreme-word}
+use Rattle.sentence.specs.Words.{limit-word, upwards, keeps, head-says}
+use Rattle.extremes.proofs.Contributions.{ShowsIn}
 use Rattle.sentence.proofs.Dues.{said-cond, and-false, passed-over, free-due}
-use Rattle.sentence.proofs.Comparisons.{sided, rule-words, Sound, kept-at}
+use Rattle.extremes.proofs.Sound.{sided, rule-words, Sound}
+use Rattle.sentence.proofs.Comparisons.{kept-at}
 
 module _ (n : ℕ) (k : Kind) (upper : Bool) (bound c head written : ℕ) (words : List ℕ) (sound : Sound n k bound c head words)
     (v : ℕ → ℕ) (t : List ℤ) (sh : ShowsIn n v t) (z : v head ≡ 0) where

@@ -17,11 +17,12 @@ use Rattle.meaning.specs.Represents.{Off}
 use Rattle.meaning.proofs.Trails.{standing-same, standing-other}
 use Rattle.area.specs.Layout.{entries-of}
 use Rattle.area.specs.Whole.{Once}
-use Rattle.sentence.specs.declared.Kind.{Kind}
-use Rattle.sentence.specs.Sentence.{standing-word}
-use Rattle.sentence.specs.Words.{empty-word, furthest-word, nearest-word, reach-word, contributions, opposite-word, wanted-word}
-use Rattle.sentence.proofs.Values.{sides}
-use Rattle.sentence.proofs.Contributions.{literal-place, Proper, Legal, ShowsIn}
+use Rattle.extremes.specs.declared.Kind.{Kind}
+use Rattle.extremes.specs.Stored.{standing-word}
+use Rattle.extremes.specs.Words.{empty-word, furthest-word, nearest-word, reach-word, contributions}
+use Rattle.sentence.specs.Words.{opposite-word, wanted-word}
+use Rattle.extremes.proofs.Values.{sides}
+use Rattle.extremes.proofs.Contributions.{literal-place, Proper, Legal, ShowsIn}
 use Rattle.sentence.proofs.Swaps.{Swapped, here, there}
 
 -- ---- opposite literals

@@ -10,9 +10,10 @@ use native.Mathlib.Nat.{mul-le-mul}
 use lib.Dec.{eqb, leb}
 use borrow.Author.Tests.{leb-true, leb-false, le-leb, lt-leb, not-true}
 use Rattle.numbers.specs.Words.{half}
-use Rattle.sentence.specs.declared.Kind.{Kind}
-use Rattle.sentence.specs.declared.Kind.the-variants.{Sum, Product, Count, Max, Min}
-use Rattle.sentence.specs.Words.{empty-word, combined, reach-word, contributions, folded, extreme-word, keeps, start-word}
+use Rattle.extremes.specs.declared.Kind.{Kind}
+use Rattle.extremes.specs.declared.Kind.the-variants.{Sum, Product, Count, Max, Min}
+use Rattle.extremes.specs.Words.{empty-word, combined, reach-word, contributions, folded, extreme-word, start-word}
+use Rattle.sentence.specs.Words.{keeps}
 
 combined-mono : (k : Kind) (a b x y : ℕ) → a ≤ b → x ≤ y → combined k a x ≤ combined k b y
 combined-mono Sum a b x y h g = omega arith

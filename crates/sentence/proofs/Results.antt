@@ -1,6 +1,6 @@
 -- What the code answers of a sentence that is ready is what the sentence says first, over every trail that the values show; and the word
 -- of a forced literal is at least 2.
-use mathlib.Core.Path.{_≡_, refl, sym, _∙_, ap, subst}
+use mathlib.Core.Path.{_≡_, sym, _∙_, ap, subst}
 use mathlib.Core.Bool.{Bool, true, false, not, cond, _&&_}
 use mathlib.Core.List.{List, [], _∷_}
 use Prim.Native.Nat.{ℕ, _+_, _*_, _/_, _%_, _≤_}
@@ -8,22 +8,23 @@ use native.Mathlib.Omega.{arith}
 use lib.IntN.{ℤ}
 use lib.Dec.{eqb}
 use borrow.Author.Tests.{ne-eqb}
-use Rattle.meaning.specs.Meaning as m
 use Rattle.meaning.specs.Computed.{free, fixed, says}
 use Rattle.area.specs.Layout.{word, tag-at, written-at, merged-at, entry-at, entry-words, value-at, kind-of}
-use Rattle.sentence.specs.declared.Kind.{Kind}
-use Rattle.sentence.specs.declared.Kind.the-variants.{Sum, Product, Count, Max, Min}
+use Rattle.extremes.specs.declared.Kind.{Kind}
 use Rattle.sentence.specs.declared.Said.{Said}
 use Rattle.sentence.specs.declared.Said.the-variants.{Silent, Conflict, Forced}
-use Rattle.sentence.specs.Sentence.{Shows, Ready, ExtremesAre, SaidIs, said-of}
-use Rattle.sentence.specs.Words.{meant, empty-word, extreme-word, second-word, limit-word, upwards, keeps, head-says, turns-word, wanted-word, scanned, leaves-second, entries-say, body-says}
+use Rattle.extremes.specs.Stored.{Shows, Ready, ExtremesAre}
+use Rattle.sentence.specs.Sentence.{SaidIs, said-of}
+use Rattle.extremes.specs.Words.{meant, empty-word, extreme-word}
+use Rattle.sentence.specs.Words.{second-word, limit-word, upwards, keeps, head-says, turns-word, wanted-word, scanned, leaves-second, entries-say, body-says}
 use Rattle.sentence.specs.Room.{Turnable}
-use Rattle.sentence.proofs.Contributions.{Legal}
+use Rattle.extremes.proofs.Contributions.{Legal}
+use Rattle.extremes.proofs.Values.{coded, meant-coded}
 use Rattle.sentence.proofs.Puts.{wanted-is}
-use Rattle.sentence.proofs.Comparisons.{rule-words, Sound}
+use Rattle.extremes.proofs.Sound.{rule-words, Sound}
 use Rattle.sentence.proofs.OpenHead.{says-open}
 use Rattle.sentence.proofs.FixedHead.{says-fixed}
-use Rattle.sentence.proofs.Stored.{upper-in, rule-is, sound-at, least-folds, greatest-folds}
+use Rattle.extremes.proofs.Stored.{upper-in, rule-is, sound-at, least-folds, greatest-folds}
 use Rattle.sentence.proofs.Turnings.{turnable-all}
 
 -- ---- the word of a forced literal
@@ -44,23 +45,6 @@ low-scanned k n u limit e v (w ∷ []) g = tt
 low-scanned k n u limit e v (w ∷ l ∷ rest) g =
     low-cond (eqb (v (l / 2)) 0 && turns-word k u limit e w) (Forced (wanted-word u (empty-word k) w l)) (scanned k u limit e v rest)
     (wanted-is u (empty-word k) w l (g .0 .literal) .real) (low-scanned k n u limit e v rest (g .1))
-
--- ---- a kind of the code for each
-
-pub coded : m.Kind → Kind
-coded m.sum = Sum
-coded m.product = Product
-coded m.count = Count
-coded m.maximum = Max
-coded m.minimum = Min
-
-pub meant-coded : (k : m.Kind) → meant (coded k) ≡ k
-unfolding coded
-meant-coded m.sum = refl
-meant-coded m.product = refl
-meant-coded m.count = refl
-meant-coded m.maximum = refl
-meant-coded m.minimum = refl
 
 -- ---- the answers
 

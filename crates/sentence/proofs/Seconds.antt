@@ -9,7 +9,8 @@ use native.Mathlib.Omega.{arith}
 use lib.Dec.{eqb}
 use borrow.Author.Tests.{eqb-true, eqb-false}
 use Rattle.numbers.proofs.Words.{cases}
-use Rattle.sentence.specs.Words.{best-kind, combined, furthest-word, nearest-word, folded, second-best}
+use Rattle.extremes.specs.Words.{combined, furthest-word, nearest-word, folded}
+use Rattle.sentence.specs.Words.{best-kind, second-best}
 use Rattle.sentence.proofs.Swaps.{Swapped, here, there}
 
 combined-best : (u : Bool) (a b : ℕ) → combined (best-kind u) a b ≡ furthest-word u a b

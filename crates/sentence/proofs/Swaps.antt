@@ -6,10 +6,10 @@ use Prim.Native.Nat.{ℕ, _+_, _-_, _*_, _/_, _≤_, _<_}
 use native.Mathlib.Omega.{arith}
 use native.Mathlib.Nat.{mul-assoc, mul-comm, mul-one, mul-right-comm, div-eq-of-eq-mul-left}
 use Rattle.numbers.specs.Words.{half}
-use Rattle.sentence.specs.declared.Kind.{Kind}
-use Rattle.sentence.specs.declared.Kind.the-variants.{Product}
-use Rattle.sentence.specs.Words.{combined, folded}
-use Rattle.sentence.specs.Room.{Steps, Room}
+use Rattle.extremes.specs.declared.Kind.{Kind}
+use Rattle.extremes.specs.declared.Kind.the-variants.{Product}
+use Rattle.extremes.specs.Words.{combined, folded}
+use Rattle.extremes.specs.Room.{Steps, Room}
 
 -- two lists that differ in one place, where x is replaced by y
 pub data Swapped (x y : ℕ) : List ℕ → List ℕ → Type 0 where

@@ -5,15 +5,17 @@ use mathlib.Core.List.{List, [], _∷_}
 use Prim.Native.Nat.{ℕ, _+_, _/_, _≤_, _<_}
 use native.Mathlib.Omega.{arith}
 use Rattle.numbers.specs.Words.{half, top}
-use Rattle.sentence.specs.declared.Kind.{Kind}
-use Rattle.sentence.specs.declared.Kind.the-variants.{Sum, Product, Count, Max, Min}
-use Rattle.sentence.specs.Words.{empty-word, start-word, furthest-word, nearest-word, folded, extreme-word, scaled, opposite-word, wanted-word}
-use Rattle.sentence.specs.Room.{Room, Turns, Turnable}
-use Rattle.sentence.proofs.Values.{In}
+use Rattle.extremes.specs.declared.Kind.{Kind}
+use Rattle.extremes.specs.declared.Kind.the-variants.{Sum, Product, Count, Max, Min}
+use Rattle.extremes.specs.Words.{empty-word, start-word, furthest-word, nearest-word, folded, extreme-word}
+use Rattle.sentence.specs.Words.{scaled, opposite-word, wanted-word}
+use Rattle.extremes.specs.Room.{Room}
+use Rattle.sentence.specs.Room.{Turns, Turnable}
+use Rattle.extremes.proofs.Values.{In}
 use Rattle.sentence.proofs.Swaps.{Swapped, sum-swap}
 use Rattle.sentence.proofs.Turns.{product-turned}
 use Rattle.sentence.proofs.Puts.{opposite, put, Member, first, later, member-proper, put-swaps, wanted-is}
-use Rattle.sentence.proofs.Comparisons.{Sound, extreme-in}
+use Rattle.extremes.proofs.Sound.{Sound, extreme-in}
 
 turns-sum : (u : Bool) (e f w : ℕ) → e < top → w < top → f + furthest-word u w half ≡ e + nearest-word u w half
     → (furthest-word u w half ≤ e + nearest-word u w half) × (e + nearest-word u w half < top + top)

@@ -11,11 +11,12 @@ use lib.Dec.{eqb, leb}
 use borrow.Author.Tests.{leb-true, leb-false, le-leb, lt-leb, not-true, not-false}
 use Rattle.numbers.specs.Words.{half, top}
 use Rattle.numbers.proofs.Words.{cases}
-use Rattle.sentence.specs.declared.Kind.{Kind}
-use Rattle.sentence.specs.declared.Kind.the-variants.{Sum, Product, Count, Max, Min}
-use Rattle.sentence.specs.Words.{empty-word, start-word, best-kind, furthest-word, nearest-word, folded, second-best, keeps, shifted, scaled, turns-word, leaves-second}
-use Rattle.sentence.specs.Room.{Room}
-use Rattle.sentence.proofs.Values.{In}
+use Rattle.extremes.specs.declared.Kind.{Kind}
+use Rattle.extremes.specs.declared.Kind.the-variants.{Sum, Product, Count, Max, Min}
+use Rattle.extremes.specs.Words.{empty-word, start-word, furthest-word, nearest-word, folded}
+use Rattle.sentence.specs.Words.{best-kind, second-best, keeps, shifted, scaled, turns-word, leaves-second}
+use Rattle.extremes.specs.Room.{Room}
+use Rattle.extremes.proofs.Values.{In}
 use Rattle.sentence.proofs.Swaps.{Swapped, sum-swap, product-swap}
 use Rattle.sentence.proofs.Seconds.{best-swap, empty-swap}
 

@@ -6,14 +6,16 @@ use Prim.Native.Nat.{ℕ, _+_, _*_, _%_}
 use native.Mathlib.Omega.{arith}
 use lib.Dec.{eqb}
 use Rattle.area.specs.Layout.{word, tag-at, merged-at, entry-at, entry-words, value-at, kind-of}
-use Rattle.sentence.specs.declared.Kind.{Kind}
+use Rattle.extremes.specs.declared.Kind.{Kind}
 use Rattle.sentence.specs.declared.Said.{Said}
 use Rattle.sentence.specs.declared.Known.{Known}
 use Rattle.sentence.specs.declared.Known.the-variants.{Silent, Conflict, Forced, Undecided}
-use Rattle.sentence.specs.Sentence.{Ready, ExtremesAre, SaidIs}
-use Rattle.sentence.specs.Words.{meant, second-word, limit-word, upwards, keeps, head-says, scanned, leaves-second, body-says}
+use Rattle.extremes.specs.Stored.{Ready, ExtremesAre}
+use Rattle.sentence.specs.Sentence.{SaidIs}
+use Rattle.extremes.specs.Words.{meant}
+use Rattle.sentence.specs.Words.{second-word, limit-word, upwards, keeps, head-says, scanned, leaves-second, body-says}
 use Rattle.sentence.specs.Known.{head-known, body-known, known-says, KnownPlaced, KnownIs}
-use Rattle.sentence.proofs.Stored.{upper-in, entries-at}
+use Rattle.extremes.proofs.Stored.{upper-in, entries-at}
 use Rattle.sentence.proofs.Results.{turnable-at, said-fixed, said-open}
 
 -- ---- by cases of a test

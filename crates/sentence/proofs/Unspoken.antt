@@ -6,15 +6,17 @@ use Prim.Native.Nat.{ℕ, _+_, _%_}
 use lib.Dec.{eqb, leb}
 use Rattle.meaning.specs.Meaning as m
 use Rattle.area.specs.Layout.{word, tag-at, merged-at, entry-at, entry-words, value-at, kind-of}
-use Rattle.sentence.specs.declared.Kind.{Kind}
-use Rattle.sentence.specs.declared.Kind.the-variants.{Sum, Product, Count, Max, Min}
+use Rattle.extremes.specs.declared.Kind.{Kind}
+use Rattle.extremes.specs.declared.Kind.the-variants.{Sum, Product, Count, Max, Min}
 use Rattle.sentence.specs.declared.Said.the-variants as said
 use Rattle.sentence.specs.declared.Known.{Known}
 use Rattle.sentence.specs.declared.Known.the-variants.{Silent, Conflict, Undecided}
-use Rattle.sentence.specs.Sentence.{Ready, ExtremesAre, SaidIs}
-use Rattle.sentence.specs.Words.{meant, second-word, limit-word, upwards, keeps, leaves-second}
+use Rattle.extremes.specs.Stored.{Ready, ExtremesAre}
+use Rattle.sentence.specs.Sentence.{SaidIs}
+use Rattle.extremes.specs.Words.{meant}
+use Rattle.sentence.specs.Words.{second-word, limit-word, upwards, keeps, leaves-second}
 use Rattle.sentence.specs.Known.{head-known}
-use Rattle.sentence.proofs.Stored.{upper-in}
+use Rattle.extremes.proofs.Stored.{upper-in}
 use Rattle.sentence.proofs.Unscanned.{known-open, known-fixed, known-so}
 
 -- every kind is one of the code's

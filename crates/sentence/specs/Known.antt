@@ -5,7 +5,7 @@ use mathlib.Core.List.{List}
 use Prim.Native.Nat.{ℕ, _+_, _*_, _/_}
 use lib.Dec.{eqb}
 use Rattle.area.specs.Layout.{word, merged-at, value-at, entry-at, entry-words}
-use Rattle.sentence.specs.declared.Kind.{Kind}
+use Rattle.extremes.specs.declared.Kind.{Kind}
 use Rattle.sentence.specs.declared.Said.{Said}
 use Rattle.sentence.specs.declared.Said.the-variants as said
 use Rattle.sentence.specs.declared.Body.{Body}
@@ -13,7 +13,8 @@ use Rattle.sentence.specs.declared.Known.{Known}
 use Rattle.sentence.specs.declared.Known.the-variants.{Silent, Conflict, Forced, Undecided}
 use Rattle.sentence.specs.Sentence.{SaidIs}
 use Rattle.sentence.specs.Words.{second-word, keeps, turns-word, scanned, leaves-second}
-use Rattle.sentence.specs.Room.{Entries, Turnable}
+use Rattle.extremes.specs.Room.{Entries}
+use Rattle.sentence.specs.Room.{Turnable}
 
 -- ---- as the code computes it
 

@@ -1,36 +1,25 @@
-// The evaluation of one stored sentence over the stored values: its extremes, and what it says first.
+// What one stored sentence says first, over the stored values, where its extremes are known.
+use extremes::Kind;
 ghost use mathlib.Core.Path.{_≡_};
 ghost use mathlib.Core.Bool.{true};
 ghost use Prim.Native.Nat.{_≤_, _<_};
 ghost use Rattle.numbers.specs.Words.{half, top};
 ghost use Rattle.area.specs.Layout.{value-at, entry-words};
-ghost use Rattle.sentence.specs.Sentence.{Ready, ExtremesAre, SaidIs};
-ghost use Rattle.sentence.specs.Words.{FoldsAre, empty-word, second-word, scanned, wanted-word};
-ghost use Rattle.sentence.specs.Room.{Entries, Rooms, Turns, Turnable};
+ghost use Rattle.extremes.specs.Stored.{Ready, ExtremesAre};
+ghost use Rattle.extremes.specs.Words.{empty-word};
+ghost use Rattle.extremes.specs.Room.{Entries};
+ghost use Rattle.sentence.specs.Sentence.{SaidIs};
+ghost use Rattle.sentence.specs.Words.{second-word, scanned, wanted-word};
+ghost use Rattle.sentence.specs.Room.{Turns, Turnable};
 ghost use Rattle.sentence.specs.Known.{turns-open, head-known, body-known, KnownIs};
 
 mod steps;
-
-// The words of the least and the greatest value.
-pub struct Extremes {
-    pub least: u64,
-    pub greatest: u64,
-}
 
 // What a sentence says first: nothing, that it is in conflict, or a forced open literal, as a word.
 pub enum Said {
     Silent,
     Conflict,
     Forced(u64),
-}
-
-// The kinds, to go by cases.
-pub enum Kind {
-    Sum,
-    Product,
-    Count,
-    Max,
-    Min,
 }
 
 // Entries that are to be scanned, under a fixed head: the direction of its truth, the comparison's limit, the extreme in that direction,
@@ -52,64 +41,6 @@ pub enum Known {
     Undecided(Body),
 }
 
-// Both folds in one loop over the entries.
-fn folds(area: &[u64], kind: Kind, first: u64, start: usize, count: usize, n: usize) -> Extremes
-    requires { ⌜ Entries (now area) start count n ⌝ }
-    requires { ⌜ Rooms kind first (value-at (now area) n) (entry-words (now area) start count) ⌝ }
-    ensures { λ r. ⌜ FoldsAre kind first (value-at (now (area .entry)) n) (entry-words (now (area .entry)) start count) r ⌝ }
-{
-    let none = steps::empty(kind);
-    let mut least = first;
-    let mut greatest = first;
-    let mut i: usize = 0;
-    while i < count {
-        let at = start + 2 * i;
-        let w = area[at];
-        let l = area[at + 1];
-        let v = area[n - 1 + (l / 2) as usize];
-        let x = steps::reaches(none, w, l, v);
-        let both = steps::step(kind, least, greatest, x.least, x.greatest);
-        least = both.least;
-        greatest = both.greatest;
-        i += 1;
-    }
-    Extremes { least, greatest }
-}
-
-// The same loop for each kind, so that in the loop the kind is no question.
-fn folds_by_kind(
-    area: &[u64],
-    kind: Kind,
-    first: u64,
-    start: usize,
-    count: usize,
-    n: usize,
-) -> Extremes
-    requires { ⌜ Entries (now area) start count n ⌝ }
-    requires { ⌜ Rooms kind first (value-at (now area) n) (entry-words (now area) start count) ⌝ }
-    ensures { λ r. ⌜ FoldsAre kind first (value-at (now (area .entry)) n) (entry-words (now (area .entry)) start count) r ⌝ }
-{
-    match kind {
-        Kind::Sum => folds(area, Kind::Sum, first, start, count, n),
-        Kind::Product => folds(area, Kind::Product, first, start, count, n),
-        Kind::Count => folds(area, Kind::Count, first, start, count, n),
-        Kind::Max => folds(area, Kind::Max, first, start, count, n),
-        Kind::Min => folds(area, Kind::Min, first, start, count, n),
-    }
-}
-
-// The extremes of the sentence whose eight words start at `base`, with n atoms and `count` sentences in the area.
-pub fn extremes_of(area: &[u64], n: usize, count: usize, base: usize) -> Extremes
-    requires { ⌜ Ready (now area) n count base ⌝ }
-    ensures { λ r. ⌜ ExtremesAre (now (area .entry)) n count base r ⌝ }
-{
-    let kind = steps::kind_of(area[base + 1] % 8);
-    let first = steps::start_of(kind, area[base + 3]);
-    let start = 4 * n + 8 * count + 2 * area[base + 6] as usize;
-    let merged = (area[base + 7] / 65536) as usize;
-    folds_by_kind(area, kind, first, start, merged, n)
-}
-
 // The second best of a maximum up, of a minimum down.
 fn second(area: &[u64], up: bool, start: usize, count: usize, n: usize) -> u64
     requires { ⌜ Entries (now area) start count n ⌝ }
@@ -129,8 +60,8 @@ fn second(area: &[u64], up: bool, start: usize, count: usize, n: usize) -> u64
         let l = area[at + 1];
         let v = area[n - 1 + (l / 2) as usize];
         let x = steps::reach(up, none, w, l, v);
-        next = steps::furthest(up, next, steps::nearest(up, best, x));
-        best = steps::furthest(up, best, x);
+        next = extremes::furthest(up, next, steps::nearest(up, best, x));
+        best = extremes::furthest(up, best, x);
         i += 1;
     }
     next
@@ -154,7 +85,7 @@ pub fn entry_wanted(body: Body, w: u64, l: u64) -> u64
     ensures { λ r. ⌜ r ≡ wanted-word (body .up) (empty-word (body .kind)) w l ⌝ }
 {
     let kind = body.kind;
-    steps::wanted(body.up, steps::empty(kind), w, l)
+    steps::wanted(body.up, extremes::empty(kind), w, l)
 }
 
 // The first open entry that turns.
@@ -255,7 +186,7 @@ pub fn look(area: &[u64], n: usize, count: usize, base: usize, least: u64, great
             head,
         );
     }
-    let kind = steps::kind_of(tag % 8);
+    let kind = extremes::kind_of(tag % 8);
     let start = 4 * n + 8 * count + 2 * area[base + 6] as usize;
     let merged = (area[base + 7] / 65536) as usize;
     let truth = v % 2 == 1;

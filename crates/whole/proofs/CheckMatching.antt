@@ -11,10 +11,11 @@ use Rattle.decide.proofs.Tells.{told-yes, told-no}
 use Rattle.meaning.specs.Meaning as m
 use Rattle.area.specs.Layout.{tag-at, least-at, greatest-at}
 use Rattle.area.specs.Whole.{BoundsMatch}
-use Rattle.sentence.specs.declared.Extremes.{Extremes}
+use Rattle.extremes.specs.declared.Extremes.{Extremes}
 use Rattle.sentence.specs.declared.Said.{Said}
 use Rattle.sentence.specs.declared.Said.the-variants.{Silent, Conflict, Forced}
-use Rattle.sentence.specs.Sentence.{Shows, ExtremesAre, SaidIs, said-of}
+use Rattle.extremes.specs.Stored.{Shows, ExtremesAre}
+use Rattle.sentence.specs.Sentence.{SaidIs, said-of}
 use Rattle.whole.specs.Parts.{Matching}
 use Rattle.whole.specs.Check.{TellsOver}
 

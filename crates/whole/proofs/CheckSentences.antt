@@ -11,7 +11,7 @@ use borrow.Author.Count.{below-more, below-none}
 use Rattle.types.specs.declared.Limits.{Limits}
 use Rattle.decide.proofs.Tells.{told-yes, told-no, denied, granted}
 use Rattle.area.specs.Layout.{record-at}
-use Rattle.sentence.specs.Sentence.{Shows, Ready}
+use Rattle.extremes.specs.Stored.{Shows, Ready}
 use Rattle.theory_check.specs.Theory.{SentenceOk, Stamps, Checkable}
 use Rattle.theory_check.proofs.Places.{placed}
 use Rattle.theory_check.proofs.Stamping.{zero-stamps}

@@ -17,7 +17,7 @@ use Rattle.book.specs.Table.{Judged}
 use Rattle.book.specs.Book.{Counters, judged, judged-all}
 use Rattle.area.specs.Layout.{word, atoms-of, sentences-of, length-of, literal-at, row-at, place-at, rows-of, record-at, pending-at, rule-at, theory-of, entries-before, need-of}
 use Rattle.area.specs.Whole.{Whole}
-use Rattle.sentence.specs.Sentence.{Ready}
+use Rattle.extremes.specs.Stored.{Ready}
 use Rattle.trail_check.proofs.Rows.{atom-of, atom-low}
 use Rattle.trail_check.proofs.Shown.{once-consistent}
 use Rattle.theory_check.proofs.Rules.{rules-length, rules-numbered}

@@ -11,12 +11,12 @@ use Rattle.numbers.proofs.Words.{word-unword}
 use Rattle.meaning.specs.Merge.{Rule}
 use Rattle.meaning.specs.Computed.{Standing, free, fixed, standing, extreme}
 use Rattle.area.specs.Layout.{word, tag-at, written-at, merged-at, entry-at, entry-words, kind-of, rule-at}
-use Rattle.sentence.specs.Sentence.{standing-word, Ready}
-use Rattle.sentence.specs.Words.{meant, extreme-word}
-use Rattle.sentence.proofs.Values.{direction, in-top}
-use Rattle.sentence.proofs.Comparisons.{extreme-in, extreme-means}
-use Rattle.sentence.proofs.Stored.{upper-in, rule-is, sound-at}
-use Rattle.sentence.proofs.Results.{coded, meant-coded}
+use Rattle.extremes.specs.Stored.{standing-word, Ready}
+use Rattle.extremes.specs.Words.{meant, extreme-word}
+use Rattle.extremes.proofs.Values.{direction, in-top}
+use Rattle.extremes.proofs.Sound.{extreme-in, extreme-means}
+use Rattle.extremes.proofs.Stored.{upper-in, rule-is, sound-at}
+use Rattle.extremes.proofs.Values.{coded, meant-coded}
 
 -- a value word for each standing, so that some values show any trail
 value-of : Standing → ℕ

@@ -13,7 +13,7 @@ use Rattle.meaning.specs.Merge.{Rule, scope}
 use Rattle.book.specs.Rows.{Row}
 use Rattle.area.specs.Layout.{word, atoms-of, sentences-of, value-at, literal-at, mark-at, row-at, rows-from, value-word}
 use Rattle.area.specs.Whole.{AtomsOnce, Rising, Reasoned}
-use Rattle.sentence.specs.Sentence.{Shows, standing-word}
+use Rattle.extremes.specs.Stored.{Shows, standing-word}
 use Rattle.trail_check.specs.Trail.{HeaderOk, TrailOk}
 use Rattle.whole.proofs.Theories.{SameTheory, rule-stays}
 

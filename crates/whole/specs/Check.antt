@@ -7,7 +7,7 @@ use Rattle.types.specs.declared.Limits.{Limits}
 use Rattle.types.specs.Limits.{Fitting}
 use Rattle.decide.specs.Tells.{Tells}
 use Rattle.area.specs.Layout.{record-at}
-use Rattle.sentence.specs.Sentence.{Shows}
+use Rattle.extremes.specs.Stored.{Shows}
 use Rattle.theory_check.specs.Theory.{PlacesOk}
 use Rattle.whole.specs.Parts.{SentenceRight}
 

@@ -4,7 +4,7 @@ use types::Limits;
 ghost use Rattle.types.specs.Limits.{Fitting};
 ghost use Rattle.decide.specs.Tells.{Tells};
 ghost use Rattle.area.specs.Whole.{Whole};
-ghost use Rattle.sentence.specs.Sentence.{Ready};
+ghost use Rattle.extremes.specs.Stored.{Ready};
 ghost use Rattle.whole.specs.Parts.{counters, Matching};
 ghost use Rattle.whole.specs.Check.{SentencesAsked, TellsOver, RightBelow};
 
@@ -13,7 +13,7 @@ fn matching(area: &[u64], n: usize, count: usize, base: usize) -> bool
     requires { ⌜ Ready (now area) n count base ⌝ }
     ensures { λ r. ⌜ TellsOver (now (area .entry)) n r (Matching (now (area .entry)) n count base) ⌝ }
 {
-    let found = sentence::extremes_of(area, n, count, base);
+    let found = extremes::extremes_of(area, n, count, base);
     let least = found.least;
     let greatest = found.greatest;
     if area[base + 4] != least {

@@ -5,7 +5,7 @@ use mathlib.Core.Logic.{⊎-elim}
 use Prim.Native.Nat.{_+_, _-_, _≤_, _<_}
 use native.Mathlib.Omega.{arith}
 use borrow.Author.Needs.{needs}
-use Rattle.sentence.specs.Room.{Entries}
+use Rattle.extremes.specs.Room.{Entries}
 use Rattle.find.specs.declared.Found.the-variants.{Nothing, Forced}
 use Rattle.find.specs.Find.{FoundIs}
 use Rattle.find.proofs.Speech.{SilentTo, silent-start, silent-next, found-nothing}

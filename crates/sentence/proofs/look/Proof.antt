@@ -10,7 +10,7 @@ use borrow.Author.Needs.{needs}
 use Rattle.area.specs.Layout.{word, entry-at, merged-at, value-at}
 use Rattle.sentence.specs.Words.{limit-word, upwards, keeps}
 use Rattle.sentence.specs.Known.{head-known, body-known, KnownIs}
-use Rattle.sentence.proofs.Stored.{upper-in, bound-high, entries-at}
+use Rattle.extremes.proofs.Stored.{upper-in, bound-high, entries-at}
 use Rattle.sentence.proofs.Unscanned.{known-open, known-fixed}
 use Rattle.sentence.proofs.look.Statement.{statement}
 use Rattle.sentence.proofs.look.Tie as tie

@@ -7,8 +7,10 @@ use native.Mathlib.Omega.{arith}
 use borrow.Author.Needs.{needs}
 use Rattle.area.specs.Layout.{value-at, entry-words}
 use Rattle.sentence.specs.declared.Said.the-variants.{Forced}
-use Rattle.sentence.specs.Words.{scanned, literal-in}
-use Rattle.sentence.proofs.Loops.{Scanning, words-from, scanning-starts, scanning-turns, scanning-found, scanning-next, scanning-ends}
+use Rattle.extremes.specs.Words.{literal-in}
+use Rattle.sentence.specs.Words.{scanned}
+use Rattle.extremes.proofs.Loops.{words-from}
+use Rattle.sentence.proofs.Loops.{Scanning, scanning-starts, scanning-turns, scanning-found, scanning-next, scanning-ends}
 use Rattle.sentence.proofs.scan.Statement.{statement}
 use Rattle.sentence.proofs.scan.Tie as tie
 

@@ -6,8 +6,10 @@ use Prim.Native.Nat.{_-_, _/_, _≤_, _<_}
 use native.Mathlib.Omega.{arith}
 use borrow.Author.Needs.{needs}
 use Rattle.area.specs.Layout.{value-at, entry-words}
-use Rattle.sentence.specs.Words.{empty-word, best-kind, reach-word, furthest-word, nearest-word, second-word, weight-in, literal-in}
-use Rattle.sentence.proofs.Loops.{Seconds, next-in, seconds-start, seconds-next, seconds-end}
+use Rattle.extremes.specs.Words.{empty-word, reach-word, furthest-word, nearest-word, weight-in, literal-in}
+use Rattle.sentence.specs.Words.{best-kind, second-word}
+use Rattle.extremes.proofs.Loops.{next-in}
+use Rattle.sentence.proofs.Loops.{Seconds, seconds-start, seconds-next, seconds-end}
 use Rattle.sentence.proofs.second.Statement.{statement}
 use Rattle.sentence.proofs.second.Tie as tie
 

@@ -8,7 +8,7 @@ use lib.Dec.{eqb, leb}
 use borrow.Author.Needs.{needs}
 use Rattle.area.specs.Layout.{word, value-at}
 use Rattle.sentence.specs.Words.{limit-word, upwards}
-use Rattle.sentence.proofs.Stored.{upper-in, bound-high}
+use Rattle.extremes.proofs.Stored.{upper-in, bound-high}
 use Rattle.sentence.proofs.Unspoken.{settled-open, settled-fixed}
 use Rattle.sentence.proofs.settled.Statement.{statement}
 use Rattle.sentence.proofs.settled.Tie as tie

@@ -2,7 +2,7 @@
 use mathlib.Core.Path.{subst, ap, _∙_}
 use mathlib.Core.Bool.{not}
 use borrow.Author.Needs.{needs}
-use Rattle.sentence.specs.declared.Kind.{Kind}
+use Rattle.extremes.specs.declared.Kind.{Kind}
 use Rattle.sentence.specs.Words.{keeps}
 use Rattle.sentence.specs.Room.{Turns}
 use Rattle.sentence.proofs.steps.turn.Statement.{statement}

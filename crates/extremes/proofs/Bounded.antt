@@ -9,12 +9,12 @@ use native.Mathlib.Omega.{arith}
 use native.Mathlib.Nat.{mul-assoc, mul-le-mul, le-refl, mul-pos}
 use lib.Dec.{eqb}
 use Rattle.numbers.specs.Words.{half, top}
-use Rattle.sentence.specs.declared.Kind.{Kind}
-use Rattle.sentence.specs.declared.Kind.the-variants.{Sum, Product, Count, Max, Min}
-use Rattle.sentence.specs.Words.{empty-word, combined, furthest-word, reach-word, contributions}
-use Rattle.sentence.specs.Room.{Steps, Room}
-use Rattle.sentence.proofs.Values.{sides}
-use Rattle.sentence.proofs.Contributions.{Proper, Legal}
+use Rattle.extremes.specs.declared.Kind.{Kind}
+use Rattle.extremes.specs.declared.Kind.the-variants.{Sum, Product, Count, Max, Min}
+use Rattle.extremes.specs.Words.{empty-word, combined, furthest-word, reach-word, contributions}
+use Rattle.extremes.specs.Room.{Steps, Room}
+use Rattle.extremes.proofs.Values.{sides}
+use Rattle.extremes.proofs.Contributions.{Proper, Legal}
 
 -- how far a word is from the word of 0
 abbrev pub far : ℕ → ℕ

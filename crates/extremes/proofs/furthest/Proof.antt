@@ -1,7 +1,7 @@
--- `sentence::furthest` meets its contract: each branch is the larger or the lesser of the two words.
+-- `extremes::furthest` meets its contract: each branch is the larger or the lesser of the two words.
 use native.Mathlib.Omega.{arith}
-use Rattle.sentence.proofs.steps.furthest.Statement.{statement}
-use Rattle.sentence.proofs.steps.furthest.Tie as tie
+use Rattle.extremes.proofs.furthest.Statement.{statement}
+use Rattle.extremes.proofs.furthest.Tie as tie
 
 returns : tie.Need-returns
 returns c = rw (c .before .if1 .taken) (omega arith)

@@ -1,4 +1,4 @@
--- `sentence::folds` meets its contract. The loop's invariant: folding the contributions from entry i on, from `least` and from `greatest`,
+-- `extremes::folds` meets its contract. The loop's invariant: folding the contributions from entry i on, from `least` and from `greatest`,
 -- comes to the whole folds, and does not wrap.
 use mathlib.Core.Path.{_≡_, ap, _∙_}
 use mathlib.Core.Bool.{true, false}
@@ -6,10 +6,10 @@ use Prim.Native.Nat.{_-_, _/_, _≤_, _<_}
 use native.Mathlib.Omega.{arith}
 use borrow.Author.Needs.{needs}
 use Rattle.area.specs.Layout.{value-at, entry-words}
-use Rattle.sentence.specs.Words.{empty-word, reach-word, contributions, folded, combined, weight-in, literal-in}
-use Rattle.sentence.proofs.Loops.{Folding, rest-from, next-in, folding-starts, folding-steps, folding-next, folding-ends}
-use Rattle.sentence.proofs.folds.Statement.{statement}
-use Rattle.sentence.proofs.folds.Tie as tie
+use Rattle.extremes.specs.Words.{empty-word, reach-word, contributions, folded, combined, weight-in, literal-in}
+use Rattle.extremes.proofs.Loops.{Folding, rest-from, next-in, folding-starts, folding-steps, folding-next, folding-ends}
+use Rattle.extremes.proofs.folds.Statement.{statement}
+use Rattle.extremes.proofs.folds.Tie as tie
 
 abbrev Inv-loop : tie.InvT-loop
 Inv-loop area kind first start count n none least₀ greatest₀ i₀ least greatest i =

@@ -16,11 +16,11 @@ use Rattle.meaning.specs.Meaning.{atom, truth, Entry, maximum, minimum, empty}
 use Rattle.meaning.specs.Computed.{furthest, combine, gather, given, fixed, standing, reach, extreme-of}
 use Rattle.meaning.proofs.Orders.{combine-comm}
 use Rattle.area.specs.Layout.{entries-of}
-use Rattle.sentence.specs.declared.Kind.{Kind}
-use Rattle.sentence.specs.Sentence.{standing-word}
-use Rattle.sentence.specs.Words.{meant, empty-word, combined, furthest-word, reach-word, contributions, folded}
-use Rattle.sentence.specs.Room.{Room}
-use Rattle.sentence.proofs.Values.{direction, unword-furthest, In, in-empty, unword-empty, furthest-in, combined-in, combined-means}
+use Rattle.extremes.specs.declared.Kind.{Kind}
+use Rattle.extremes.specs.Stored.{standing-word}
+use Rattle.extremes.specs.Words.{meant, empty-word, combined, furthest-word, reach-word, contributions, folded}
+use Rattle.extremes.specs.Room.{Room}
+use Rattle.extremes.proofs.Values.{direction, unword-furthest, In, in-empty, unword-empty, furthest-in, combined-in, combined-means}
 
 -- ---- words of entries
 

@@ -1,8 +1,8 @@
--- `sentence::reaches` meets its contract: an open atom, a false literal, a true one.
+-- `extremes::reaches` meets its contract: an open atom, a false literal, a true one.
 use borrow.Author.Tests.{eq-eqb, ne-eqb}
 use borrow.Author.Needs.{needs}
-use Rattle.sentence.proofs.steps.reaches.Statement.{statement}
-use Rattle.sentence.proofs.steps.reaches.Tie as tie
+use Rattle.extremes.proofs.reaches.Statement.{statement}
+use Rattle.extremes.proofs.reaches.Tie as tie
 
 returns : tie.Need-returns
 returns c = record { least-is = rw (eq-eqb _ _ (c .before .before .if1 .taken)) (c .before .furthest .ensures); greatest-is = rw (eq-eqb _ _ (c .before .before .if1 .taken)) (c .furthest2 .ensures) }

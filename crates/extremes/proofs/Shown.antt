@@ -9,8 +9,8 @@ use lib.IntN.{ℤ, pos, negsuc}
 use lib.Dec.{eqb}
 use Rattle.meaning.specs.Computed.{free, fixed, standing}
 use Rattle.meaning.proofs.Trails.{standing-same, standing-other}
-use Rattle.sentence.specs.Sentence.{standing-word}
-use Rattle.sentence.proofs.Contributions.{ShowsIn}
+use Rattle.extremes.specs.Stored.{standing-word}
+use Rattle.extremes.proofs.Contributions.{ShowsIn}
 
 -- the literal of atom k + 1 that its value x says, if it is set and odd or even
 said-by : Bool → Bool → ℕ → List ℤ → List ℤ

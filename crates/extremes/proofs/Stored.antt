@@ -19,17 +19,17 @@ use Rattle.meaning.specs.Merge.{Rule}
 use Rattle.meaning.specs.Computed.{extreme}
 use Rattle.area.specs.Layout.{word, tag-at, written-at, merged-at, entry-at, entry-words, value-at, kind-of, side-of, constant-of, entries-of, rule-at}
 use Rattle.area.specs.Whole.{RuleWhole}
-use Rattle.sentence.specs.declared.Kind.{Kind}
-use Rattle.sentence.specs.declared.Extremes.{Extremes}
-use Rattle.sentence.specs.Sentence.{Shows, Ready, ExtremesAre}
-use Rattle.sentence.specs.Words.{meant, weight-in, literal-in, start-word, extreme-word, FoldsAre}
-use Rattle.sentence.specs.Room.{Entries, Rooms}
-use Rattle.sentence.proofs.Loops.{words-from, from-start, from-next}
-use Rattle.sentence.proofs.Values.{direction, in-top}
-use Rattle.sentence.proofs.Contributions.{Proper, Legal}
-use Rattle.sentence.proofs.Comparisons.{sided, rule-words, Sound, extreme-in, extreme-means}
-use Rattle.sentence.proofs.Whole.{near-far, sound-from}
-use Rattle.sentence.proofs.Shown.{some-trail}
+use Rattle.extremes.specs.declared.Kind.{Kind}
+use Rattle.extremes.specs.declared.Extremes.{Extremes}
+use Rattle.extremes.specs.Stored.{Shows, Ready, ExtremesAre}
+use Rattle.extremes.specs.Words.{meant, weight-in, literal-in, start-word, extreme-word, FoldsAre}
+use Rattle.extremes.specs.Room.{Entries, Rooms}
+use Rattle.extremes.proofs.Loops.{words-from, from-start, from-next}
+use Rattle.extremes.proofs.Values.{direction, in-top}
+use Rattle.extremes.proofs.Contributions.{Proper, Legal}
+use Rattle.extremes.proofs.Sound.{sided, rule-words, Sound, extreme-in, extreme-means}
+use Rattle.extremes.proofs.Whole.{near-far, sound-from}
+use Rattle.extremes.proofs.Shown.{some-trail}
 
 -- ---- the rule
 

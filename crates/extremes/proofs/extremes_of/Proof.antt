@@ -1,13 +1,13 @@
--- `sentence::extremes_of` meets its contract: the words that it reads are those of the sentence's rule, whose folds do not wrap and stand for
+-- `extremes::extremes_of` meets its contract: the words that it reads are those of the sentence's rule, whose folds do not wrap and stand for
 -- its extremes.
 use mathlib.Core.Path.{sym, subst}
 use borrow.Author.Needs.{needs}
 use Rattle.area.specs.Layout.{entry-at, merged-at, entry-words, value-at}
-use Rattle.sentence.specs.Words.{FoldsAre}
-use Rattle.sentence.specs.Room.{Rooms}
-use Rattle.sentence.proofs.Stored.{entries-at, rooms-at, folds-extremes}
-use Rattle.sentence.proofs.extremes_of.Statement.{statement}
-use Rattle.sentence.proofs.extremes_of.Tie as tie
+use Rattle.extremes.specs.Words.{FoldsAre}
+use Rattle.extremes.specs.Room.{Rooms}
+use Rattle.extremes.proofs.Stored.{entries-at, rooms-at, folds-extremes}
+use Rattle.extremes.proofs.extremes_of.Statement.{statement}
+use Rattle.extremes.proofs.extremes_of.Tie as tie
 
 folds-by-kind-requires : tie.Need-folds-by-kind-requires
 folds-by-kind-requires c κs =

@@ -1,10 +1,10 @@
--- `sentence::step` meets its contract, kind by kind: what it asks of both steps is what each kind's operation asks.
+-- `extremes::step` meets its contract, kind by kind: what it asks of both steps is what each kind's operation asks.
 use mathlib.Core.Path.{subst}
 use borrow.Author.Needs.{needs}
-use Rattle.sentence.specs.declared.Kind.{Kind}
-use Rattle.sentence.specs.Room.{Steps}
-use Rattle.sentence.proofs.steps.step.Statement.{statement}
-use Rattle.sentence.proofs.steps.step.Tie as tie
+use Rattle.extremes.specs.declared.Kind.{Kind}
+use Rattle.extremes.specs.Room.{Steps}
+use Rattle.extremes.proofs.step.Statement.{statement}
+use Rattle.extremes.proofs.step.Tie as tie
 
 plus-requires : tie.Need-plus-requires
 plus-requires c κs = subst (λ (k : Kind). Steps k (c .before .before .args .least) (c .before .before .args .low)) (c .enum-told .given .1) (c .before .before .pre .0)

@@ -20,13 +20,13 @@ use Rattle.types.specs.declared.Limits.{Limits}
 use Rattle.types.specs.Limits.{Fitting}
 use Rattle.area.specs.Layout.{entries-of}
 use Rattle.area.specs.Whole.{Near, WeightWhole, EntryWhole, weights-of, RuleWhole}
-use Rattle.sentence.specs.declared.Kind.{Kind}
-use Rattle.sentence.specs.declared.Kind.the-variants.{Sum, Product, Count, Max, Min}
-use Rattle.sentence.specs.Words.{meant, start-word}
-use Rattle.sentence.proofs.Values.{In, in-empty}
-use Rattle.sentence.proofs.Contributions.{literal-place, entry-of, Legal}
-use Rattle.sentence.proofs.Bounded.{far, spread, factors, Bounded, bounded-room}
-use Rattle.sentence.proofs.Comparisons.{rule-words, Sound}
+use Rattle.extremes.specs.declared.Kind.{Kind}
+use Rattle.extremes.specs.declared.Kind.the-variants.{Sum, Product, Count, Max, Min}
+use Rattle.extremes.specs.Words.{meant, start-word}
+use Rattle.extremes.proofs.Values.{In, in-empty}
+use Rattle.extremes.proofs.Contributions.{literal-place, entry-of, Legal}
+use Rattle.extremes.proofs.Bounded.{far, spread, factors, Bounded, bounded-room}
+use Rattle.extremes.proofs.Sound.{rule-words, Sound}
 
 -- ---- one word
 

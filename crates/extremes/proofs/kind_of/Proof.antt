@@ -1,8 +1,8 @@
--- `sentence::kind_of` meets its contract: the numbers from 4 on are the minimum's, as the layout has it.
+-- `extremes::kind_of` meets its contract: the numbers from 4 on are the minimum's, as the layout has it.
 use borrow.Author.Needs.{needs}
 use Rattle.area.proofs.KindNumbers.{others-minimum}
-use Rattle.sentence.proofs.steps.kind_of.Statement.{statement}
-use Rattle.sentence.proofs.steps.kind_of.Tie as tie
+use Rattle.extremes.proofs.kind_of.Statement.{statement}
+use Rattle.extremes.proofs.kind_of.Tie as tie
 
 returns-5 : tie.Need-returns-5
 returns-5 c = others-minimum (c .before .args .number) (c .match .rest .0 .0 .0 .1) (c .match .rest .0 .0 .1) (c .match .rest .0 .1) (c .match .rest .1)

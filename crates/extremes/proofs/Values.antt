@@ -1,6 +1,6 @@
 -- Words stand for values: the order of words is the values' order, and each kind's combination of words is the combination of the values,
 -- where it does not wrap.
-use mathlib.Core.Path.{_≡_, sym, _∙_, ap, subst}
+use mathlib.Core.Path.{_≡_, refl, sym, _∙_, ap, subst}
 use mathlib.Core.Bool.{Bool, true, false}
 use mathlib.Core.Logic.{_⊎_, inl, inr, ⊎-elim}
 use Prim.Native.Nat.{ℕ, _+_, _-_, _*_, _≤_, _<_}
@@ -11,11 +11,29 @@ use Rattle.numbers.specs.Extended.{Direction, up, down, at}
 use Rattle.numbers.specs.Words.{half, top, unword}
 use Rattle.numbers.proofs.Words.{cases, unbias-sum, unbias-product, unword-at, unword-word, unword-max, unword-min}
 use Rattle.meaning.specs.Meaning.{empty}
+use Rattle.meaning.specs.Meaning as m
 use Rattle.meaning.specs.Computed.{both, combine, furthest}
-use Rattle.sentence.specs.declared.Kind.{Kind}
-use Rattle.sentence.specs.declared.Kind.the-variants.{Sum, Product, Count, Max, Min}
-use Rattle.sentence.specs.Words.{meant, empty-word, combined, furthest-word, nearest-word}
-use Rattle.sentence.specs.Room.{Steps}
+use Rattle.extremes.specs.declared.Kind.{Kind}
+use Rattle.extremes.specs.declared.Kind.the-variants.{Sum, Product, Count, Max, Min}
+use Rattle.extremes.specs.Words.{meant, empty-word, combined, furthest-word, nearest-word}
+use Rattle.extremes.specs.Room.{Steps}
+
+-- a kind of the code for each
+
+pub coded : m.Kind → Kind
+coded m.sum = Sum
+coded m.product = Product
+coded m.count = Count
+coded m.maximum = Max
+coded m.minimum = Min
+
+pub meant-coded : (k : m.Kind) → meant (coded k) ≡ k
+unfolding coded
+meant-coded m.sum = refl
+meant-coded m.product = refl
+meant-coded m.count = refl
+meant-coded m.maximum = refl
+meant-coded m.minimum = refl
 
 abbrev pub direction : Bool → Direction
 direction true = up

@@ -1,11 +1,11 @@
--- `sentence::folds_by_kind` meets its contract: in each arm the kind is the one that `folds` is called with.
+-- `extremes::folds_by_kind` meets its contract: in each arm the kind is the one that `folds` is called with.
 use mathlib.Core.Path.{subst}
 use borrow.Author.Needs.{needs}
 use Rattle.area.specs.Layout.{value-at, entry-words}
-use Rattle.sentence.specs.declared.Kind.{Kind}
-use Rattle.sentence.specs.Room.{Rooms}
-use Rattle.sentence.proofs.folds_by_kind.Statement.{statement}
-use Rattle.sentence.proofs.folds_by_kind.Tie as tie
+use Rattle.extremes.specs.declared.Kind.{Kind}
+use Rattle.extremes.specs.Room.{Rooms}
+use Rattle.extremes.proofs.folds_by_kind.Statement.{statement}
+use Rattle.extremes.proofs.folds_by_kind.Tie as tie
 
 folds-requires : tie.Need-folds-requires
 folds-requires c κs =
