@@ -89,6 +89,14 @@ tag-at w b = word w (b + 1)
 abbrev pub pending-at : List ℕ → ℕ → Bool
 pending-at w b = leb 16 (tag-at w b)
 
+-- the kind's number
+abbrev pub kind-at : List ℕ → ℕ → ℕ
+kind-at w b = tag-at w b % 8
+
+-- the sentence says value ≤ bound
+abbrev pub upper-at : List ℕ → ℕ → Bool
+upper-at w b = eqb (tag-at w b / 8 % 2) 1
+
 abbrev pub bound-at : List ℕ → ℕ → ℕ
 bound-at w b = word w (b + 2)
 
@@ -150,6 +158,13 @@ weight-at w n S b j = word w (entry-at w n S b + 2 * j)
 
 abbrev pub entry-literal-at : List ℕ → ℕ → ℕ → ℕ → ℕ → ℕ
 entry-literal-at w n S b j = word w (entry-at w n S b + 2 * j + 1)
+
+-- of entry j of those whose words start at `start`
+abbrev pub weight-in : List ℕ → ℕ → ℕ → ℕ
+weight-in w start j = word w (start + 2 * j)
+
+abbrev pub literal-in : List ℕ → ℕ → ℕ → ℕ
+literal-in w start j = word w (start + 2 * j + 1)
 
 abbrev pub entry-words : List ℕ → ℕ → ℕ → List ℕ
 entry-words w at k = slice at (at + 2 * k) w

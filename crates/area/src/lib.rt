@@ -4,7 +4,7 @@ ghost use mathlib.Core.Path.{_≡_};
 ghost use mathlib.Core.Bool.{Bool};
 ghost use Prim.Native.Nat.{_+_, _-_, _*_, _≤_, _<_, _%_};
 ghost use lib.ListN.{length, set};
-ghost use Rattle.area.specs.Layout.{atoms-of, sentences-of, length-of, level-of, value-at, literal-at, mark-at, place-at, row-at, record-at, head-at, tag-at, pending-at, bound-at, constant-at, least-at, greatest-at, before-at, written-at, merged-at, entry-at, weight-at, entry-literal-at};
+ghost use Rattle.area.specs.Layout.{atoms-of, sentences-of, length-of, level-of, value-at, literal-at, mark-at, place-at, row-at, record-at, head-at, tag-at, pending-at, kind-at, upper-at, bound-at, constant-at, least-at, greatest-at, before-at, written-at, merged-at, entry-at, weight-at, entry-literal-at, weight-in, literal-in};
 
 // ---- word 0
 
@@ -108,6 +108,21 @@ pub fn pending_at(area: &[u64], base: usize) -> bool
     area[base + 1] >= 16
 }
 
+pub fn kind_at(area: &[u64], base: usize) -> u64
+    requires { ⌜ base + 8 ≤ length (now area) ⌝ }
+    ensures { λ r. ⌜ r ≡ kind-at (now (area .entry)) base ⌝ }
+{
+    area[base + 1] % 8
+}
+
+// whether it says value ≤ bound
+pub fn upper_at(area: &[u64], base: usize) -> bool
+    requires { ⌜ base + 8 ≤ length (now area) ⌝ }
+    ensures { λ r. ⌜ r ≡ upper-at (now (area .entry)) base ⌝ }
+{
+    area[base + 1] / 8 % 2 == 1
+}
+
 pub fn bound_at(area: &[u64], base: usize) -> u64
     requires { ⌜ base + 8 ≤ length (now area) ⌝ }
     ensures { λ r. ⌜ r ≡ bound-at (now (area .entry)) base ⌝ }
@@ -179,6 +194,21 @@ pub fn entry_literal_at(area: &[u64], n: usize, count: usize, base: usize, j: us
     ensures { λ r. ⌜ r ≡ entry-literal-at (now (area .entry)) n count base j ⌝ }
 {
     area[4 * n + 8 * count + 2 * area[base + 6] as usize + 2 * j + 1]
+}
+
+// of entry j of those whose words start at `start`, for loops that find the start once
+pub fn weight_in(area: &[u64], start: usize, j: usize) -> u64
+    requires { ⌜ start + 2 * j + 1 < length (now area) ⌝ }
+    ensures { λ r. ⌜ r ≡ weight-in (now (area .entry)) start j ⌝ }
+{
+    area[start + 2 * j]
+}
+
+pub fn literal_in(area: &[u64], start: usize, j: usize) -> u64
+    requires { ⌜ start + 2 * j + 1 < length (now area) ⌝ }
+    ensures { λ r. ⌜ r ≡ literal-in (now (area .entry)) start j ⌝ }
+{
+    area[start + 2 * j + 1]
 }
 
 // the stored bounds
