@@ -9,9 +9,9 @@ use Rattle.meaning.proofs.Members.{places-each}
 use Rattle.meaning.proofs.Standing.{each-place}
 use Rattle.area.specs.Layout.{word, tag-at, written-at, merged-at, kind-of, entry-at, rule-at}
 use Rattle.area.specs.Whole.{EntryWhole}
-use Rattle.theory_check.specs.Words.{stored-entry}
+use Rattle.entries_check.specs.Entries.{stored-entry}
 use Rattle.theory_check.proofs.Listing.{listed, entries-listed, each-by, by-each}
-use Rattle.theory_check.proofs.Weights.{atom-half}
+use Rattle.word_check.proofs.Weights.{atom-half}
 use Rattle.refresh.specs.Refresh.{Untouched}
 use Rattle.refresh.specs.One.{TouchReady}
 

@@ -2,19 +2,19 @@
 -- holds of each number and back.
 use mathlib.Core.Path.{_≡_, refl, sym, ap, ap₂, _∙_}
 use mathlib.Core.List.{List, [], _∷_}
-use Prim.Native.Nat.{ℕ, zero, suc, _+_, _*_, _-_, _<_, _≤_}
+use Prim.Native.Nat.{ℕ, zero, suc, _+_, _*_, _<_, _≤_}
 use native.Mathlib.Omega.{arith}
-use native.Mathlib.Nat.{mul-assoc, le-mul-of-pos-right}
+use native.Mathlib.Nat.{mul-assoc}
 use lib.ListN.{length, getD}
 use lib.Seq.{slice, slice-empty, slice-cons}
 use lib.IntN.{ℤ, pos, _*ℤ_}
 use Rattle.decide.specs.Below.{product-below}
-use Rattle.decide.proofs.Below.{product-step}
 use Rattle.meaning.specs.Meaning.{Entry, place, Each, multiplied}
 use Rattle.meaning.specs.Merge.{places}
 use Rattle.area.specs.Layout.{word, entries-of, entry-words}
 use Rattle.area.specs.Whole.{Once, weights-of}
-use Rattle.theory_check.specs.Words.{entry-of, stored-entry}
+use Rattle.word_check.specs.Words.{entry-of}
+use Rattle.entries_check.specs.Entries.{stored-entry}
 
 -- f 0, .., f (k - 1)
 abbrev pub listed : ℕ → (ℕ → Entry) → List Entry
@@ -105,24 +105,6 @@ multiplied-listed zero f g h = refl
 multiplied-listed (suc k) f g h =
     ap₂ {A = ℤ} {B = ℤ} (λ a b. a *ℤ b) (h 0 (omega arith)) (multiplied-listed k (λ i. f (suc i)) (λ i. g (suc i)) (λ i l. h (suc i) (omega arith)))
     ∙ ap {A = ℕ} pos (sym (product-front k g))
-
--- a product does not fall where its factors are from 1 on
-grow-by : (f : ℕ → ℕ) (k d : ℕ) → ((j : ℕ) → j < k + d → 1 ≤ f j) → product-below k f ≤ product-below (k + d) f
-grow-by f k zero h = let e : k + 0 ≡ k = omega arith in omega (arith, ap {A = ℕ} (λ n. product-below n f) e)
-grow-by f k (suc d) h =
-    let e : k + suc d ≡ k + d + 1 = omega arith in
-    omega (
-      arith,
-      grow-by f k d (λ j l. h j (omega arith)),
-      product-step (k + d) f,
-      ap {A = ℕ} (λ n. product-below n f) e,
-      le-mul-of-pos-right (product-below (k + d) f) (h (k + d) (omega arith)),
-    )
-
-pub product-grows : (f : ℕ → ℕ) (k m : ℕ) → k ≤ m → ((j : ℕ) → j < m → 1 ≤ f j) → product-below k f ≤ product-below m f
-product-grows f k m l h =
-    let e : k + (m - k) ≡ m = omega arith in
-    omega (arith, grow-by f k (m - k) (λ j t. h j (omega arith)), ap {A = ℕ} (λ n. product-below n f) e)
 
 -- ---- the atoms
 

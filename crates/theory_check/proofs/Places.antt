@@ -7,8 +7,7 @@ use native.Mathlib.Numerals.{add-one}
 use lib.ListN.{length}
 use Rattle.types.specs.declared.Limits.{Limits}
 use Rattle.area.specs.Layout.{record-at, written-at, merged-at, entry-at, entries-before}
-use Rattle.theory_check.specs.Theory.{PlacesOk, Reasonable}
-use Rattle.theory_check.specs.Words.{ScopeAsked}
+use Rattle.theory_check.specs.Theory.{PlacesOk}
 
 pub none-before : (w : List ℕ) (n : ℕ) → entries-before w n 0 ≡ 0
 unfolding entries-before
@@ -47,8 +46,3 @@ placed lim w n S s p l =
       merged = q .merged;
       room = omega (arith, room-below lim w n S s p l, p .room);
     }
-
-pub reason-inside : (lim : Limits) (w : List ℕ) (n S len r : ℕ) → Reasonable lim w n S len → ¬ (r ≡ 0) → r ≤ S → ScopeAsked w n S (4 * n + 8 * (r - 1))
-reason-inside lim w n S len r q z l =
-    let p = placed lim w n S (r - 1) (q .places) (omega arith) in
-    record { atoms = omega (arith, q .atoms-high, q .fitting .atoms); sentences = omega (arith, q .sentences, q .fitting .sentences); own = p .own; room = omega (arith, p .room, p .merged) }

@@ -16,10 +16,12 @@ use Rattle.meaning.specs.Meaning.{Entry, Kind, sum, product, count, maximum, mi
 use Rattle.area.specs.Layout.{word, tag-at, written-at, merged-at, kind-of, constant-of, entries-of, entry-at, entry-words, rule-at}
 use Rattle.area.specs.Whole.{Near, EntryWhole, Once, weights-of}
 use Rattle.theory_check.specs.Theory.{SentenceOk}
-use Rattle.theory_check.specs.Words.{stored-entry, factor, ConstantOk, RecordOk, EntriesOk}
+use Rattle.word_check.specs.Words.{ConstantOk}
+use Rattle.entries_check.specs.Entries.{stored-entry, factor, EntriesOk}
+use Rattle.entries_check.proofs.Entries.{EntryOk, weight-above}
+use Rattle.theory_check.specs.Words.{RecordOk}
 use Rattle.theory_check.proofs.Listing.{listed, entries-listed, each-by, by-each, once-by, by-once, multiplied-listed}
-use Rattle.theory_check.proofs.Weights.{literal-low}
-use Rattle.theory_check.proofs.Entries.{EntryOk, weight-above}
+use Rattle.word_check.proofs.Weights.{literal-low}
 
 -- ---- the constant
 

@@ -1,5 +1,5 @@
--- What the check of the stored theory decides: the clauses of `Whole` that speak of places, of one sentence's words, and of reasons; and
--- what the check of a sentence asks of its table of stamps.
+-- What the check of the stored theory decides: the clauses of `Whole` that speak of places and of one sentence's words; and what the check
+-- of a sentence asks of its table of stamps.
 use mathlib.Core.Path.{_≡_}
 use mathlib.Core.Bool.{Bool, not}
 use mathlib.Core.List.{List}
@@ -12,6 +12,7 @@ use Rattle.decide.specs.Tells.{Tells}
 use Rattle.meaning.specs.Meaning.{mixes}
 use Rattle.area.specs.Layout.{word, record-at, tag-at, before-at, written-at, merged-at, entry-at, rule-at, entries-before}
 use Rattle.area.specs.Whole.{RuleWhole}
+use Rattle.entries_check.specs.Entries.{Stamps}
 
 -- ---- places: each sentence's entries stand behind those before it, and there is room for all
 
@@ -34,11 +35,6 @@ pub record SentenceOk (lim : Limits) (w : List ℕ) (n S b : ℕ) : Type 0 where
   pub constant : T (not (mixes (rule-at w n S b .kind))) → word w (b + 3) ≡ 0
   pub unused : (i : ℕ) → 2 * merged-at w b ≤ i → i < 2 * written-at w b → word w (entry-at w n S b + i) ≡ 0
 
--- no stamp is above `old`
-pub record Stamps (seen : List ℕ) (old : ℕ) : Type 0 where
-  pub size : length seen ≡ 4097
-  pub upto : (a : ℕ) → a < 4097 → word seen a ≤ old
-
 pub record Checkable (lim : Limits) (w : List ℕ) (n S b : ℕ) (seen : List ℕ) (old : ℕ) : Type 0 where
   pub fitting : Fitting lim
   pub atoms-low : 1 ≤ n
@@ -54,16 +50,3 @@ pub record Checkable (lim : Limits) (w : List ℕ) (n S b : ℕ) (seen : List �
 pub record Checked (lim : Limits) (w : List ℕ) (n S b : ℕ) (seen : List ℕ) (old : ℕ) (r : Bool) : Type 0 where
   pub tells : Tells r (SentenceOk lim w n S b)
   pub stamps : Stamps seen (old + 1)
-
--- ---- the reasons of the first len rows
-
--- what the check asks: the trail is inside, and every sentence has its room
-pub record Reasonable (lim : Limits) (w : List ℕ) (n S len : ℕ) : Type 0 where
-  pub fitting : Fitting lim
-  pub atoms-low : 1 ≤ n
-  pub atoms-high : n ≤ lim .atoms
-  pub sentences : S ≤ lim .sentences
-  pub few : len ≤ n
-  pub places : PlacesOk lim w n S
-  -- the trail's literals are of atoms
-  pub literals : (i : ℕ) → i < len → 2 ≤ word w (2 * n + i)

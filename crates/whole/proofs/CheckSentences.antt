@@ -12,9 +12,10 @@ use Rattle.types.specs.declared.Limits.{Limits}
 use Rattle.decide.proofs.Tells.{told-yes, told-no, denied, granted}
 use Rattle.area.specs.Layout.{record-at}
 use Rattle.extremes.specs.Stored.{Shows, Ready}
-use Rattle.theory_check.specs.Theory.{SentenceOk, Stamps, Checkable}
+use Rattle.entries_check.specs.Entries.{Stamps}
+use Rattle.theory_check.specs.Theory.{SentenceOk, Checkable}
 use Rattle.theory_check.proofs.Places.{placed}
-use Rattle.theory_check.proofs.Stamping.{zero-stamps}
+use Rattle.entries_check.proofs.Stamping.{zero-stamps}
 use Rattle.whole.specs.Parts.{Matching, SentenceRight}
 use Rattle.whole.specs.Check.{SentencesAsked, TellsOver, RightBelow}
 

@@ -75,5 +75,5 @@ pub fn is_whole(area: &[u64], lim: Limits, len: u64, level: u64) -> bool
     if !sentences_ok(area, lim, n, count) {
         return false;
     }
-    theory_check::reasons_ok(area, lim, n, count, rows)
+    reason_check::reasons_ok(area, lim, n, count, rows)
 }

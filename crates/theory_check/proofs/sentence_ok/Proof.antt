@@ -2,7 +2,7 @@
 use native.Mathlib.Omega.{arith}
 use borrow.Author.Needs.{needs}
 use Rattle.decide.proofs.Tells.{told-yes, told-no, denied, granted}
-use Rattle.theory_check.proofs.Stamping.{stamps-more}
+use Rattle.entries_check.proofs.Stamping.{stamps-more}
 use Rattle.theory_check.proofs.Sentences.{sentence-from, own-words, own-entries, own-rest}
 use Rattle.theory_check.proofs.sentence_ok.Statement.{statement}
 use Rattle.theory_check.proofs.sentence_ok.Tie as tie

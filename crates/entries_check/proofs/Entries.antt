@@ -1,0 +1,107 @@
+-- The check of the entries, entry by entry: those passed are whole, their atoms are stamped, and their product is the running one. The
+-- product of weights from 1 on does not fall, so that one that has passed 10^18 stays past it.
+use mathlib.Core.Path.{_≡_, sym, ap, _∙_, subst}
+use mathlib.Core.List.{List}
+use Prim.Native.Nat.{ℕ, zero, suc, _+_, _*_, _-_, _/_, _%_, _<_, _≤_}
+use native.Mathlib.Nat.{le-mul-of-pos-right}
+use native.Mathlib.Omega.{arith}
+use lib.ListN.{set}
+use borrow.Author.Count.{below-none, below-more}
+use Rattle.decide.specs.Below.{product-below}
+use Rattle.decide.proofs.Below.{product-none, product-step}
+use Rattle.numbers.specs.Words.{half}
+use Rattle.meaning.specs.Meaning.{Entry}
+use Rattle.area.specs.Layout.{word, tag-at, written-at, merged-at, kind-of}
+use Rattle.area.specs.Whole.{WeightWhole, Multiplied, EntryWhole}
+use Rattle.word_check.specs.Words.{Grown}
+use Rattle.entries_check.specs.Entries.{stored-entry, factor, Stamps, EntriesOk}
+use Rattle.word_check.proofs.Weights.{atom-half, one-from}
+use Rattle.entries_check.proofs.Stamping.{Stamped, none-stamped, met-before, one-stamped}
+
+-- a product does not fall where its factors are from 1 on
+grow-by : (f : ℕ → ℕ) (k d : ℕ) → ((j : ℕ) → j < k + d → 1 ≤ f j) → product-below k f ≤ product-below (k + d) f
+grow-by f k zero h = let e : k + 0 ≡ k = omega arith in omega (arith, ap {A = ℕ} (λ n. product-below n f) e)
+grow-by f k (suc d) h =
+    let e : k + suc d ≡ k + d + 1 = omega arith in
+    omega (
+      arith,
+      grow-by f k d (λ j l. h j (omega arith)),
+      product-step (k + d) f,
+      ap {A = ℕ} (λ n. product-below n f) e,
+      le-mul-of-pos-right (product-below (k + d) f) (h (k + d) (omega arith)),
+    )
+
+pub product-grows : (f : ℕ → ℕ) (k m : ℕ) → k ≤ m → ((j : ℕ) → j < m → 1 ≤ f j) → product-below k f ≤ product-below m f
+product-grows f k m l h =
+    let e : k + (m - k) ≡ m = omega arith in
+    omega (arith, grow-by f k (m - k) (λ j t. h j (omega arith)), ap {A = ℕ} (λ n. product-below n f) e)
+
+abbrev pub atom-at : List ℕ → ℕ → ℕ → ℕ
+atom-at w at k = word w (at + 2 * k + 1) / 2
+
+abbrev pub EntryOk : List ℕ → ℕ → ℕ → ℕ → ℕ → Type 0
+EntryOk w n b at k = EntryWhole n (word w b) (kind-of (tag-at w b % 8)) (written-at w b) (stored-entry w at k)
+
+-- the first i entries have passed
+pub record Passed (w : List ℕ) (n b at old i : ℕ) (seen : List ℕ) (product : ℕ) : Type 0 where
+  pub whole : (k : ℕ) → k < i → EntryOk w n b at k
+  pub stamped : Stamped (atom-at w at) old i seen
+  pub low : 1 ≤ product
+  pub high : product ≤ 1000000000000000000
+  pub is : tag-at w b % 8 ≡ 1 → product ≡ product-below i (factor w at)
+
+pub product-weight : (k written : ℕ) (e : Entry) → k ≡ 1 → WeightWhole (kind-of k) written e → Multiplied e
+product-weight k written e q h = subst (λ (m : ℕ). WeightWhole (kind-of m) written e) q h
+
+-- a weight of a product is above the word of 0
+pub weight-above : (w : List ℕ) (n b at k : ℕ) → tag-at w b % 8 ≡ 1 → EntryOk w n b at k → half < word w (at + 2 * k)
+weight-above w n b at k q e = one-from (word w (at + 2 * k)) (product-weight (tag-at w b % 8) (written-at w b) (stored-entry w at k) q (e .weighs) .low)
+
+module _ (w : List ℕ) (n b at old : ℕ) where
+  pub none-passed : (seen : List ℕ) → Stamps seen old → Passed w n b at old 0 seen 1
+  none-passed seen s = record {
+    whole = below-none (EntryOk w n b at);
+    stamped = none-stamped (atom-at w at) old seen s;
+    low = omega arith;
+    high = omega arith;
+    is = λ q. sym (product-none (factor w at));
+  }
+
+  module _ (i : ℕ) (seen : List ℕ) (product : ℕ) (p : Passed w n b at old i seen product) where
+    -- an atom with a stamp of this sentence stands in it before
+    pub stamped-twice : atom-at w at i < 4097 → i < merged-at w b → old < word seen (atom-at w at i) → EntriesOk w n b at → ⊥
+    stamped-twice a l h o =
+        met-before (atom-at w at) old i seen (p .stamped) a (merged-at w b) l h
+        (λ j k s t e. o .once j k s t (atom-half (word w (at + 2 * j + 1)) ∙ e ∙ sym (atom-half (word w (at + 2 * k + 1)))))
+
+    product-next : tag-at w b % 8 ≡ 1 → product * factor w at i ≡ product-below (i + 1) (factor w at)
+    product-next q = ap {A = ℕ} (λ x. x * factor w at i) (p .is q) ∙ sym (product-step i (factor w at))
+
+    pub one-passed : (v r : ℕ) → v ≡ old + 1 → atom-at w at i < 4097 → word seen (atom-at w at i) ≤ old → EntryOk w n b at i
+        → Grown (tag-at w b % 8) product (word w (at + 2 * i)) r → ¬ (r ≡ 0) → Passed w n b at old (i + 1) (set seen (atom-at w at i) v) r
+    one-passed v r new a f e g z = record {
+      whole = below-more (EntryOk w n b at) i (p .whole) e;
+      stamped = one-stamped (atom-at w at) old i seen (p .stamped) a v new f;
+      low = omega arith;
+      high = g .high;
+      is = λ q. g .is q (omega arith) ∙ product-next q;
+    }
+
+    pub product-past : (r : ℕ) → i < merged-at w b → Grown (tag-at w b % 8) product (word w (at + 2 * i)) r → r ≡ 0 → EntriesOk w n b at → ⊥
+    product-past r l g z o =
+        let q = g .past z .0 in
+        omega (
+          arith,
+          g .past z .1,
+          product-next q,
+          o .product q,
+          product-grows (factor w at) (i + 1) (merged-at w b) (omega arith) (λ j t. omega (arith, weight-above w n b at j q (o .each j t))),
+        )
+
+  pub all-passed : (i : ℕ) (seen : List ℕ) (product : ℕ) → Passed w n b at old i seen product → i ≡ merged-at w b → EntriesOk w n b at
+  all-passed i seen product p e = record {
+    each = λ k l. p .whole k (omega arith);
+    once = λ j k l m q. p .stamped .apart j k (omega arith) (omega arith)
+        (sym (atom-half (word w (at + 2 * j + 1))) ∙ q ∙ atom-half (word w (at + 2 * k + 1)));
+    product = λ q. omega (arith, p .is q, p .high, ap {A = ℕ} (λ m. product-below m (factor w at)) e);
+  }

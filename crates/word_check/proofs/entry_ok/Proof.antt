@@ -1,0 +1,34 @@
+-- The entry's atom is half its literal's word, and the kind's test tells of the weight.
+use mathlib.Core.Path.{sym, _∙_}
+use native.Mathlib.Omega.{arith}
+use borrow.Author.Needs.{needs}
+use Rattle.decide.proofs.Tells.{told-yes, told-no, denied, granted}
+use Rattle.word_check.proofs.Weights.{atom-half}
+use Rattle.word_check.proofs.entry_ok.Statement.{statement}
+use Rattle.word_check.proofs.entry_ok.Tie as tie
+
+returns : tie.Need-returns
+returns c = told-no (λ h. omega (arith, h .atom-low, atom-half (c .before .args .literal)))
+
+returns-2 : tie.Need-returns-2
+returns-2 c = told-no (λ h. omega (arith, h .atom-high, atom-half (c .before .before .args .literal)))
+
+returns-3 : tie.Need-returns-3
+returns-3 c = told-no (λ h. h .other (atom-half (c .before .before .before .args .literal) ∙ c .if3 .taken))
+
+returns-4 : tie.Need-returns-4
+returns-4 c = told-no (λ h. denied (c .before .weight-ok .ensures) (c .if4 .taken) (h .weighs))
+
+returns-5 : tie.Need-returns-5
+returns-5 c = told-yes (record {
+  atom-low = omega (arith, atom-half (c .before .before .before .before .before .args .literal));
+  atom-high = omega (arith, atom-half (c .before .before .before .before .before .args .literal));
+  weighs = granted (c .before .weight-ok .ensures) (c .if4 .left);
+  other = λ e. c .before .before .if3 .left (sym (atom-half (c .before .before .before .before .before .args .literal)) ∙ e);
+})
+
+pub entry-ok-spec : {M : Type 1} → statement M
+entry-ok-spec =
+    tie.close
+    (tie.spec
+    returns returns-2 returns-3 (λ c κs. search needs) returns-4 returns-5)
