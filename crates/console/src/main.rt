@@ -3,10 +3,10 @@
 use calls::Bounds;
 use calls::Done;
 use calls::Listed;
-use console_text::Bare;
+use console_names::Bare;
+use console_names::OfLiteral;
+use console_names::OfNumber;
 use console_text::Command;
-use console_text::OfLiteral;
-use console_text::OfNumber;
 use console_text::Rule;
 use propagate::Propagated;
 use types::Atom;
@@ -328,7 +328,7 @@ fn add_rule(
         bounds[i] = bound;
         counts[i] = rule.entries;
     }
-    console_text::read_entries(line, weights, literals, s.entries as usize);
+    console_entries::read_entries(line, weights, literals, s.entries as usize);
     let next = reading(
         s,
         s.atoms,

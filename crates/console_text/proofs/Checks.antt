@@ -2,13 +2,15 @@
 use mathlib.Core.Path.{_≡_, refl}
 use mathlib.Core.List.{[], _∷_}
 use lib.IntN.{pos, negsuc}
-use Rattle.console_text.specs.declared.Bare.the-variants.{Trail}
-use Rattle.console_text.specs.declared.OfLiteral.the-variants.{Give, Why}
-use Rattle.console_text.specs.declared.OfNumber.the-variants.{Back}
+use Rattle.console_names.specs.declared.Bare.the-variants.{Trail}
+use Rattle.console_names.specs.declared.OfLiteral.the-variants.{Give, Why}
+use Rattle.console_names.specs.declared.OfNumber.the-variants.{Back}
 use Rattle.console_text.specs.declared.Command.the-variants.{Empty, Comment, Wrong, Plan, Rule, Bare, Literal, Number}
-use Rattle.console_text.specs.Words.{words-from, same}
-use Rattle.console_text.specs.Numbers.{all-digits, value-from, unsigned-of, signed-of}
-use Rattle.console_text.specs.Command.{name-of, kind-of, side-of, entries-of, all-entries, command-of}
+use Rattle.console_words.specs.Words.{words-from, same}
+use Rattle.console_words.specs.Numbers.{all-digits, value-from, unsigned-of, signed-of}
+use Rattle.console_names.specs.Names.{name-of, kind-of, side-of}
+use Rattle.console_entries.specs.Entries.{entries-of, all-entries}
+use Rattle.console_text.specs.Command.{command-of}
 
 -- plan 3 1
 line-1 : command-of (112 ∷ 108 ∷ 97 ∷ 110 ∷ 32 ∷ 51 ∷ 32 ∷ 49 ∷ []) ≡ Plan 3 1

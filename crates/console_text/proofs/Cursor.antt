@@ -1,6 +1,6 @@
--- The next word and the next entry, read off the answers.
-use mathlib.Core.List.{List, [], _∷_}
-use mathlib.Core.Path.{_≡_, sym, subst, ap, _∙_}
+-- Words of a line as a comment and as a rule.
+use mathlib.Core.List.{List}
+use mathlib.Core.Path.{_≡_, sym, ap, _∙_}
 use Prim.Native.Nat.{ℕ, suc, _-_, _<_}
 use native.Mathlib.Omega.{arith}
 use lib.Dec.{eqb}
@@ -8,36 +8,15 @@ use lib.IntN.{ℤ}
 use lib.ListN.{length, take, drop, getD}
 use lib.Seq.{drop-cons}
 use Rattle.console_text.specs.declared.Command.the-variants as command
-use Rattle.console_text.specs.declared.Next.{Next}
-use Rattle.console_text.specs.declared.Next.the-variants.{Word, End}
-use Rattle.console_text.specs.declared.Signed.the-variants.{Integer, NotInteger}
-use Rattle.console_text.specs.declared.Taken.{Taken}
-use Rattle.console_text.specs.declared.Taken.the-variants.{Entry, Wrong, Nothing}
-use Rattle.console_text.specs.declared.Unsigned.the-variants.{Natural, NotNatural}
-use Rattle.console_text.specs.Command.{kind-of, side-of, entry-count, rule, rule-of, comment}
-use Rattle.console_text.specs.Cursor.{WordAt, NextWord, EntryAt, NoEntry, NextEntry}
-use Rattle.console_text.specs.Numbers.{signed-of}
-use Rattle.console_text.specs.Words.{words, Word as Bytes}
-
-pub found : {line : List ℕ} {at : ℕ} {n : Next} {from to : ℕ} → NextWord line at n → n ≡ Word from to → WordAt line at from to
-found {line} {at} f e = subst (λ (n : Next). NextWord line at n) e f
-
-pub ended : (line : List ℕ) (at : ℕ) {n : Next} → NextWord line at n → n ≡ End → words (drop at line) ≡ []
-ended line at f e = subst (λ (n : Next). NextWord line at n) e f
-
--- a word, and the words behind it
-pub then : {line : List ℕ} {at from to : ℕ} {ws : List Bytes} → WordAt line at from to → words (drop to line) ≡ ws →
-    words (drop at line) ≡ take (to - from) (drop from line) ∷ ws
-then {line} {at} {from} {to} w e = w .words-are ∙ ap (λ (ws : List Bytes). take (to - from) (drop from line) ∷ ws) e
-
-pub entry-found : {line : List ℕ} {at : ℕ} {t : Taken} {x y : ℤ} {to : ℕ} → NextEntry line at t → t ≡ Entry x y to → EntryAt line at x y to
-entry-found {line} {at} f e = subst (λ (t : Taken). NextEntry line at t) e f
-
-pub wrong-found : {line : List ℕ} {at : ℕ} {t : Taken} → NextEntry line at t → t ≡ Wrong → NoEntry line at
-wrong-found {line} {at} f e = subst (λ (t : Taken). NextEntry line at t) e f
-
-pub nothing-found : (line : List ℕ) (at : ℕ) {t : Taken} → NextEntry line at t → t ≡ Nothing → words (drop at line) ≡ []
-nothing-found line at f e = subst (λ (t : Taken). NextEntry line at t) e f
+use Rattle.console_words.specs.declared.Signed.the-variants.{Integer, NotInteger}
+use Rattle.console_words.specs.declared.Unsigned.the-variants.{Natural, NotNatural}
+use Rattle.console_names.specs.Names.{kind-of, side-of}
+use Rattle.console_entries.specs.Entries.{entry-count}
+use Rattle.console_text.specs.Command.{rule, rule-of, comment}
+use Rattle.console_words.proofs.Cursor.{then}
+use Rattle.console_words.specs.Cursor.{WordAt}
+use Rattle.console_words.specs.Numbers.{signed-of}
+use Rattle.console_words.specs.Words.{words}
 
 -- a word begins with the byte at its place
 pub comment-told : {line : List ℕ} {at from to : ℕ} → WordAt line at from to → comment (take (to - from) (drop from line)) ≡ eqb (getD line from 0) 35

@@ -1,7 +1,3 @@
 pub mod Checks
 pub mod Cursor
-pub mod Entries
-pub mod Names
-pub mod Numbers
 pub mod Rules
-pub mod Words

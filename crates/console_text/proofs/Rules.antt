@@ -5,19 +5,20 @@ use mathlib.Core.List.{List, [], _∷_}
 use Prim.Native.Nat.{ℕ}
 use lib.ListN.{length, drop}
 use lib.IntN.{ℤ}
-use Rattle.console_text.specs.declared.Unsigned.{Unsigned}
-use Rattle.console_text.specs.declared.Unsigned.the-variants.{Natural, NotNatural}
-use Rattle.console_text.specs.declared.Signed.{Signed}
-use Rattle.console_text.specs.declared.Signed.the-variants.{Integer, NotInteger}
-use Rattle.console_text.specs.declared.Name.{Name}
-use Rattle.console_text.specs.declared.Name.the-variants as name
+use Rattle.console_words.specs.declared.Unsigned.{Unsigned}
+use Rattle.console_words.specs.declared.Unsigned.the-variants.{Natural, NotNatural}
+use Rattle.console_words.specs.declared.Signed.{Signed}
+use Rattle.console_words.specs.declared.Signed.the-variants.{Integer, NotInteger}
+use Rattle.console_names.specs.declared.Name.{Name}
+use Rattle.console_names.specs.declared.Name.the-variants as name
 use Rattle.console_text.specs.declared.Rule.{Rule}
 use Rattle.console_text.specs.declared.Command.{Command}
 use Rattle.console_text.specs.declared.Command.the-variants as command
-use Rattle.console_text.specs.Words.{Word, words}
-use Rattle.console_text.specs.Numbers.{unsigned-of, signed-of}
-use Rattle.console_text.specs.Command.{no-words, only-signed, only-unsigned, integer, natural, plan-of, entries-of, all-entries, name-of, kind-of, side-of}
-use Rattle.console_text.specs.Command.{rule-of, entries-in, comment, by-name, of-words, command-of}
+use Rattle.console_words.specs.Words.{Word, words}
+use Rattle.console_words.specs.Numbers.{unsigned-of, signed-of}
+use Rattle.console_text.specs.Command.{no-words, only-signed, only-unsigned, integer, natural, plan-of, rule-of, comment, by-name, of-words, command-of}
+use Rattle.console_entries.specs.Entries.{entries-of, all-entries, entries-in}
+use Rattle.console_names.specs.Names.{name-of, kind-of, side-of}
 
 -- a command that is a rule has so many entries
 abbrev Counts : ℕ → Command → Type 0

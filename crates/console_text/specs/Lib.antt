@@ -1,4 +1,1 @@
-pub mod Words
-pub mod Numbers
 pub mod Command
-pub mod Cursor

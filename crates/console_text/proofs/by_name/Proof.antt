@@ -4,10 +4,10 @@ use lib.ListN.{drop}
 use mir.Syntax.{w64}
 use mir.ValLaws.{toZ-ofZ}
 use borrow.Author.Needs.{needs}
-use Rattle.console_text.specs.declared.Name.{Name}
+use Rattle.console_names.specs.declared.Name.{Name}
 use Rattle.console_text.specs.Command.{by-name}
-use Rattle.console_text.specs.Words.{words}
-use Rattle.console_text.proofs.Cursor.{found, ended}
+use Rattle.console_words.specs.Words.{words}
+use Rattle.console_words.proofs.Cursor.{found, ended}
 use Rattle.console_text.proofs.by_name.Statement.{statement}
 use Rattle.console_text.proofs.by_name.Tie as tie
 

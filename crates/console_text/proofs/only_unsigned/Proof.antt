@@ -2,8 +2,8 @@
 use mathlib.Core.Path.{sym, ap, _∙_}
 use borrow.Author.Needs.{needs}
 use Rattle.console_text.specs.Command.{only-unsigned}
-use Rattle.console_text.specs.Cursor.{WordAt}
-use Rattle.console_text.proofs.Cursor.{found, ended, then}
+use Rattle.console_words.specs.Cursor.{WordAt}
+use Rattle.console_words.proofs.Cursor.{found, ended, then}
 use Rattle.console_text.proofs.only_unsigned.Statement.{statement}
 use Rattle.console_text.proofs.only_unsigned.Tie as tie
 

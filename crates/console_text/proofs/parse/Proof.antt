@@ -3,8 +3,9 @@ use mathlib.Core.Path.{sym, ap, _∙_}
 use borrow.Author.Needs.{needs}
 use borrow.Author.Tests.{eq-eqb, ne-eqb}
 use Rattle.console_text.specs.Command.{of-words, command-of}
-use Rattle.console_text.specs.Cursor.{WordAt}
-use Rattle.console_text.proofs.Cursor.{found, ended, comment-told}
+use Rattle.console_words.specs.Cursor.{WordAt}
+use Rattle.console_words.proofs.Cursor.{found, ended}
+use Rattle.console_text.proofs.Cursor.{comment-told}
 use Rattle.console_text.proofs.parse.Statement.{statement}
 use Rattle.console_text.proofs.parse.Tie as tie
 

@@ -2,8 +2,8 @@
 use mathlib.Core.Path.{sym, ap, _∙_}
 use borrow.Author.Needs.{needs}
 use Rattle.console_text.specs.Command.{plan-of}
-use Rattle.console_text.specs.Cursor.{WordAt}
-use Rattle.console_text.proofs.Cursor.{found, ended}
+use Rattle.console_words.specs.Cursor.{WordAt}
+use Rattle.console_words.proofs.Cursor.{found, ended}
 use Rattle.console_text.proofs.read_plan.Statement.{statement}
 use Rattle.console_text.proofs.read_plan.Tie as tie
 

@@ -5,8 +5,9 @@ use mir.Syntax.{w64}
 use mir.ValLaws.{toZ-ofZ}
 use borrow.Author.Needs.{needs}
 use Rattle.console_text.specs.Command.{rule-of}
-use Rattle.console_text.specs.Cursor.{WordAt}
-use Rattle.console_text.proofs.Cursor.{found, ended, then, no-head, no-kind, no-side, no-bound, no-entries, rule-is}
+use Rattle.console_words.specs.Cursor.{WordAt}
+use Rattle.console_words.proofs.Cursor.{found, ended, then}
+use Rattle.console_text.proofs.Cursor.{no-head, no-kind, no-side, no-bound, no-entries, rule-is}
 use Rattle.console_text.proofs.read_rule.Statement.{statement}
 use Rattle.console_text.proofs.read_rule.Tie as tie
 
