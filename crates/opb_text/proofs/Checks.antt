@@ -8,11 +8,14 @@ use lib.ListN.{replicate}
 use lib.IntN.{ℤ, pos, negℤ}
 use Rattle.numbers.specs.Text.{bytes}
 use Rattle.meaning.specs.Meaning.{Entry}
-use Rattle.opb_bytes.specs.declared.Phase.the-variants.{AfterTerm}
-use Rattle.opb_bytes.specs.declared.State.{State}
-use Rattle.opb_bytes.specs.declared.Next.{Next}
-use Rattle.opb_bytes.specs.declared.Next.the-variants.{More, Term, Constraint as Passed, Fault}
-use Rattle.opb_bytes.specs.Grammar.{sizing, more, long-fault, v-fault, c-fault, variable-fault, expect, begin, between, relation-at-least, relation-equal, finish, place, ends}
+use Rattle.opb_states.specs.declared.Phase.the-variants.{AfterTerm}
+use Rattle.opb_states.specs.declared.State.{State}
+use Rattle.opb_states.specs.declared.Next.{Next}
+use Rattle.opb_states.specs.declared.Next.the-variants.{More, Term, Constraint as Passed, Fault}
+use Rattle.opb_states.specs.States.{sizing, more, long-fault, v-fault, c-fault, variable-fault}
+use Rattle.opb_pieces.specs.Pieces.{expect, begin, between, relation-at-least, relation-equal, finish}
+use Rattle.opb_phases.specs.Phases.{place}
+use Rattle.opb_bytes.specs.Grammar.{ends}
 use Rattle.opb_text.specs.Text.{Constraint, Reading, taken, refused, go, reading}
 
 -- three variables and one constraint, and then this

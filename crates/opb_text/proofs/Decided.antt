@@ -8,9 +8,9 @@ use lib.ListN.{length, getD, length-append}
 use lib.Dec.{eqb, ltb}
 use borrow.Author.Tests.{ne-eqb}
 use Rattle.meaning.specs.Meaning.{Entry}
-use Rattle.opb_bytes.specs.declared.State.{State}
-use Rattle.opb_bytes.specs.declared.Next.{Next}
-use Rattle.opb_bytes.specs.declared.Next.the-variants as next
+use Rattle.opb_states.specs.declared.State.{State}
+use Rattle.opb_states.specs.declared.Next.{Next}
+use Rattle.opb_states.specs.declared.Next.the-variants as next
 use Rattle.opb_bytes.specs.Grammar.{step, ends, begins}
 use Rattle.opb_bytes.specs.States.{fixed, Sound}
 use Rattle.opb_text.specs.declared.Read.{Read}

@@ -14,9 +14,9 @@ use Rattle.meaning.specs.Meaning.{Entry}
 use Rattle.columns.specs.Columns.{Columns, columns}
 use Rattle.columns.specs.Indexed.{sizes}
 use Rattle.columns.specs.declared.Sizes.{Sizes}
-use Rattle.opb_bytes.specs.declared.State.{State}
-use Rattle.opb_bytes.specs.declared.Next.{Next}
-use Rattle.opb_bytes.specs.declared.Next.the-variants as next
+use Rattle.opb_states.specs.declared.State.{State}
+use Rattle.opb_states.specs.declared.Next.{Next}
+use Rattle.opb_states.specs.declared.Next.the-variants as next
 use Rattle.opb_bytes.specs.Grammar.{bytes-limit, step, ends, begins}
 use Rattle.opb_bytes.specs.States.{fixed, Sound}
 use Rattle.opb_text.specs.declared.Read.{Read}

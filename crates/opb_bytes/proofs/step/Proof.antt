@@ -1,7 +1,7 @@
 -- The byte's class is the table's.
 use mathlib.Core.Path.{_∙_, ap}
 use borrow.Author.Needs.{needs}
-use Rattle.opb_bytes.specs.Grammar.{place}
+use Rattle.opb_phases.specs.Phases.{place}
 use Rattle.opb_bytes.proofs.step.Statement.{statement}
 use Rattle.opb_bytes.proofs.step.Tie as tie
 
