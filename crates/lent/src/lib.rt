@@ -1,5 +1,6 @@
 // The two forms of document 01 whose proofs walk the code by hand: load's entries lent as a list of records, and the counters lent to be
 // changed in the caller's hands. Each function is thin: a public call of `dalelead` does the work, and its contract is the contract here.
+use calls::Done;
 use columns::Answer;
 use propagate::Propagated;
 use types::Atom;
@@ -213,11 +214,35 @@ fn search_told(area: &mut [u64], counters: Counters, literals: &[i64]) -> Search
     }
 }
 
+// Give, open and take back by value, which the entries below move into the lent counters.
+fn give_told(area: &mut [u64], counters: Counters, literal: i64) -> Done
+    ensures { λ r. ⌜ Gives (now (area .entry)) (now (area .exit)) counters literal r ⌝ }
+{
+    let answer = dalelead::give(area, counters, literal);
+    let next = answer.counters;
+    Done {
+        code: answer.code,
+        counters: next,
+    }
+}
+
+fn open_told(area: &mut [u64], counters: Counters) -> Done
+    ensures { λ r. ⌜ Opens (now (area .entry)) (now (area .exit)) counters r ⌝ }
+{
+    dalelead::open_level(area, counters)
+}
+
+fn take_back_told(area: &mut [u64], counters: Counters, level: Level) -> Done
+    ensures { λ r. ⌜ TakesBack (now (area .entry)) (now (area .exit)) counters (level .0) r ⌝ }
+{
+    dalelead::take_back(area, counters, level)
+}
+
 // Give, with the counters in the caller's hands: 0 or the refusal.
 pub fn give_in(area: &mut [u64], counters: &mut Counters, literal: i64) -> u64
     ensures { λ r. ⌜ Gives (now (area .entry)) (now (area .exit)) (now (counters .entry)) literal (done r (now (counters .exit))) ⌝ }
 {
-    let answer = dalelead::give(area, *counters, literal);
+    let answer = give_told(area, *counters, literal);
     *counters = answer.counters;
     answer.code
 }
@@ -226,7 +251,7 @@ pub fn give_in(area: &mut [u64], counters: &mut Counters, literal: i64) -> u64
 pub fn open_in(area: &mut [u64], counters: &mut Counters) -> u64
     ensures { λ r. ⌜ Opens (now (area .entry)) (now (area .exit)) (now (counters .entry)) (done r (now (counters .exit))) ⌝ }
 {
-    let answer = dalelead::open_level(area, *counters);
+    let answer = open_told(area, *counters);
     *counters = answer.counters;
     answer.code
 }
@@ -235,7 +260,7 @@ pub fn open_in(area: &mut [u64], counters: &mut Counters) -> u64
 pub fn take_back_in(area: &mut [u64], counters: &mut Counters, level: Level) -> u64
     ensures { λ r. ⌜ TakesBack (now (area .entry)) (now (area .exit)) (now (counters .entry)) (level .0) (done r (now (counters .exit))) ⌝ }
 {
-    let answer = dalelead::take_back(area, *counters, level);
+    let answer = take_back_told(area, *counters, level);
     *counters = answer.counters;
     answer.code
 }

@@ -1,6 +1,6 @@
 -- `take_back_in` meets its contract: a walk of its MIR by hand. The counters' borrow is opened, the counters are passed by value to
--- `take_back`, and those of its answer are stored again. The area is lent on for good. All that is
--- known of `take_back` is that it meets its contract.
+-- `take_back_told`, and those of its answer are stored again. The area is lent on for good. All that is
+-- known of `take_back_told` is that it meets its contract.
 use mathlib.Core.Path.{_≡_, refl, ap}
 use mathlib.Core.List.{List, [], _∷_}
 use Prim.Native.Nat.{ℕ, _<_, _^_}
@@ -52,10 +52,10 @@ use Rattle.calls.proofs.Done as S
 use Rattle.calls.proofs.Done.Laws as S′
 use Rattle.types.proofs.Level as P
 use Rattle.types.proofs.Level.Laws as P′
-use Rattle.dalelead.proofs.take_back as take-back
-use Rattle.dalelead.proofs.take_back.Symbol as take-back-def
-use Rattle.dalelead.proofs.take_back.Symbol.{name as #dalelead·take-back}
-use Rattle.dalelead.proofs.take_back.Met as take-back-thm
+use Rattle.lent.proofs.take_back_told as take-back-told
+use Rattle.lent.proofs.take_back_told.Symbol as take-back-told-def
+use Rattle.lent.proofs.take_back_told.Symbol.{name as #lent·take-back-told}
+use Rattle.lent.proofs.take_back_told.Met as take-back-told-thm
 use Rattle.lent.proofs.take_back_in.Key.{name as #lent·take-back-in}
 use Rattle.lent.proofs.take_back_in as take-back-in
 use Rattle.lent.proofs.take_back_in.Statement as stated
@@ -72,7 +72,7 @@ pvals = LL.vals P.the-type P′.the-laws
 
 -- the contract that the proof cites
 abbrev Core : {M : Type 1} (𝓤 : URA M) (H : Heap 𝓤) (A : Atoms 𝓤) (at-mem : Memory → SProp 𝓤) (run : Routine → Fun 𝓤) → Contract 𝓤
-Core 𝓤 H A at-mem run = tripleOf 𝓤 H A take-back.signature (take-back.spec 𝓤 H A at-mem run)
+Core 𝓤 H A at-mem run = tripleOf 𝓤 H A take-back-told.signature (take-back-told.spec 𝓤 H A at-mem run)
 
 module _ {M : Type 1} (𝓤 : URA M) (H : Heap 𝓤) (A : Atoms 𝓤) (W : Given 𝓤 H A) (at-mem : Memory → SProp 𝓤) (run : Routine → Fun 𝓤)
     (κ₀ κ₁ : Lft) (bounds : AllOutlive 2 (take-back-in.signature .outlives) (κ₀, (κ₁, tt))) (q₀ q₁ : Share)
@@ -133,7 +133,7 @@ module _ {M : Type 1} (𝓤 : URA M) (H : Heap 𝓤) (A : Atoms 𝓤) (W : Given
       []) refl $ fjoin3 ! $ fjoin ! $ move ! (1 ∷ 0 ∷ []) $ fjoin ! $ owned ! u64 (Is u64) (uint-makes 𝓤 H A W w64) (r .code) _ (refl, g) $ move ! (1 ∷ 0 ∷
       []) $ done !
 
-  module _ (C : Calls 𝓤 H) (Λ : Loops 𝓤 H) (fm : FmC 𝓤 H (W .laws) C) (known : Triple 𝓤 (C #dalelead·take-back) (Core 𝓤 H A at-mem run)) where
+  module _ (C : Calls 𝓤 H) (Λ : Loops 𝓤 H) (fm : FmC 𝓤 H (W .laws) C) (known : Triple 𝓤 (C #lent·take-back-told) (Core 𝓤 H A at-mem run)) where
     walk : Room u64 (length (area .now)) → ent 𝓤 (onEntry 𝓤 H A take-back-in.signature (κ₀, (κ₁, tt)) (q₀, (q₁, tt)) a at)
         (WpFn 𝓤 H C Λ code.function (s-area ∷ vptr b o ∷ P′.lowered level ∷ []) Post)
     walk room-area =
@@ -156,9 +156,9 @@ module _ {M : Type 1} (𝓤 : URA M) (H : Heap 𝓤) (A : Atoms 𝓤) (W : Given
         -- the call
         calls-at ! fm (Core 𝓤 H A at-mem run) known to-core (and-then ! (load ! (from ! (stop !)) (look ! 7 refl)) (and-then ! (load ! (from ! (stop !)) (look
         ! 5 refl)) (and-then ! (load ! (from ! (stop !)) (look ! 13 refl)) (no-more !)))) (λ w. use1 W (later (some (λ (r : Done). ((‵ (flft κ₀ q₀) ⊛ ‵ ftrue)
-        ⊛ ‵ (S.the-row .own r (w ∷ []))) ⊛ raw (ensured 𝓤 H A take-back.ended (take-back.clauses 𝓤 H A at-mem run) (κ₀, tt) (area, (h, (level, tt))) tt r))))
+        ⊛ ‵ (S.the-row .own r (w ∷ []))) ⊛ raw (ensured 𝓤 H A take-back-told.ended (take-back-told.clauses 𝓤 H A at-mem run) (κ₀, tt) (area, (h, (level, tt))) tt r))))
         (id⊢ 𝓤 _) $ await ! tt $ pick ! (λ r. split ! $ move ! (1 ∷ []) $ use1 W (some (λ (zs : (List ℕ × (Unit {0} × (Unit {0} × Unit {0})))). ‵ (lasts
-        take-back.ended (κ₀, tt) (area, (h, (level, tt))) zs) ⊛ raw (fact 𝓤 (Said r (zs .0))))) (id⊢ 𝓤 _) $ pick ! (λ zs. split ! $ move ! (1 ∷ []) $ heard !
+        take-back-told.ended (κ₀, tt) (area, (h, (level, tt))) zs) ⊛ raw (fact 𝓤 (Said r (zs .0))))) (id⊢ 𝓤 _) $ pick ! (λ zs. split ! $ move ! (1 ∷ []) $ heard !
         (Said r (zs .0)) (λ e. fsplit ! $ fsplit ! $ move ! (1 ∷ []) $ feqL ! (λ l-area. move ! (1 ∷ []) $ fsplit ! $ drop ! $ fsplit ! $ drop ! $ drop ! $
         move ! (1 ∷ []) $ split ! $ move ! (1 ∷ []) $ peeks ! S.the-row (Is S.the-row) (shows 𝓤 H A S.the-row) r (w ∷ []) (λ is.
         -- the answer lands, and its counters are stored again
@@ -176,7 +176,7 @@ module _ {M : Type 1} (𝓤 : URA M) (H : Heap 𝓤) (A : Atoms 𝓤) (W : Given
         free0 ! $ keep ! (0 ∷ 1 ∷ 2 ∷ 4 ∷ 5 ∷ []) $ by ! (exits r (zs .0) e l-area (LL.owed S.the-type S′.the-laws r _ is .0 .1))))))))))))))))))
 
 module _ {M : Type 1} (𝓤 : URA M) (H : Heap 𝓤) (A : Atoms 𝓤) (W : Given 𝓤 H A) (at-mem : Memory → SProp 𝓤) (run : Routine → Fun 𝓤) where
-  walks : (C : Calls 𝓤 H) (Λ : Loops 𝓤 H) → FmC 𝓤 H (W .laws) C → Triple 𝓤 (C #dalelead·take-back) (Core 𝓤 H A at-mem run)
+  walks : (C : Calls 𝓤 H) (Λ : Loops 𝓤 H) → FmC 𝓤 H (W .laws) C → Triple 𝓤 (C #lent·take-back-told) (Core 𝓤 H A at-mem run)
       → Walks 𝓤 H A take-back-in.ended stayed (WpFn 𝓤 H C Λ code.function) (take-back-in.clauses 𝓤 H A at-mem run)
   walks C Λ fm known =
       walked 𝓤 H A take-back-in.ended stayed (take-back-in.clauses 𝓤 H A at-mem run) (WpFn 𝓤 H C Λ code.function)
@@ -199,7 +199,7 @@ module _ {M : Type 1} (𝓤 : URA M) (H : Heap 𝓤) (A : Atoms 𝓤) (W : Given
   )
 
 meets : {M : Type 1} (𝓤 : URA M) (H : Heap 𝓤) (A : Atoms 𝓤) (W : Given 𝓤 H A) (mem : Memory → SProp 𝓤) (run : Routine → Fun 𝓤) (𝓣 : Tables 𝓤 H)
-    → Triple 𝓤 (𝓣 .C #dalelead·take-back) (Core 𝓤 H A mem run)
+    → Triple 𝓤 (𝓣 .C #lent·take-back-told) (Core 𝓤 H A mem run)
     → Meets 𝓤 H A take-back-in.signature (WpFn 𝓤 H (𝓣 .C) (𝓣 .Λ) code.function) (take-back-in.spec 𝓤 H A mem run)
 meets 𝓤 H A W mem run 𝓣 known =
     walk-meets 𝓤 H A take-back-in.ended stayed W (goes 𝓤 H A W mem run) (take-back-in.clauses 𝓤 H A mem run) (WpFn 𝓤 H (𝓣 .C) (𝓣 .Λ) code.function)
@@ -211,5 +211,5 @@ take-back-in-spec 𝓤 H 𝓜 𝓖 𝓡 =
     entered 𝓤 H (tripleOf 𝓤 H (𝓖 .A) take-back-in.signature (take-back-in.spec 𝓤 H (𝓖 .A) (𝓜 .mem) (𝓡 .run)))
     (tables 𝓤 H 𝓜 𝓡 code.env .C) (tables 𝓤 H 𝓜 𝓡 code.env .Λ) #lent·take-back-in code.function (code.unfolded 𝓤 H 𝓜 𝓡)
     (meets 𝓤 H (𝓖 .A) (givenOf 𝓤 H 𝓜 𝓖) (𝓜 .mem) (𝓡 .run) (tablesOf 𝓤 H 𝓜 (tables 𝓤 H 𝓜 𝓡 code.env))
-    (cited 𝓤 H (Core 𝓤 H (𝓖 .A) (𝓜 .mem) (𝓡 .run)) 𝓜 𝓡 code.env #dalelead·take-back take-back-def.routine code.calls-dalelead·take-back
-    (take-back-thm.met 𝓤 H 𝓜 𝓖 𝓡)))
+    (cited 𝓤 H (Core 𝓤 H (𝓖 .A) (𝓜 .mem) (𝓡 .run)) 𝓜 𝓡 code.env #lent·take-back-told take-back-told-def.routine code.calls-lent·take-back-told
+    (take-back-told-thm.met 𝓤 H 𝓜 𝓖 𝓡)))
