@@ -1,4 +1,3 @@
 pub mod Replies
-pub mod Changes
 pub mod Raising
 pub mod Lowering

@@ -24,7 +24,7 @@ use Rattle.refresh.specs.Refresh.{Refreshable, Refreshed}
 use Rattle.refresh.proofs.WholeNext.{TrailChanged, refreshable, renewed-whole}
 use Rattle.calls.proofs.Acting.{acts-kept, acts-moved}
 use Rattle.levels.proofs.Replies.{take-back-refused, take-back-passes}
-use Rattle.levels.proofs.Changes.{whole-stands, whole-rows, reason-kept, renewed-moved}
+use Rattle.trail.proofs.Changes.{whole-stands, whole-rows, reason-kept, renewed-moved}
 
 module _ (lim : Limits) (w : List ℕ) (len level k : ℕ) (f : Fitting lim) (h : Whole lim w (counters len level)) where
   abbrev n : ℕ

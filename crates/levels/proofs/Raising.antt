@@ -25,7 +25,7 @@ use Rattle.whole.proofs.Frame.{same-record}
 use Rattle.refresh.proofs.WholeNext.{TrailChanged, RenewedWhole, renewed-whole}
 use Rattle.calls.proofs.Acting.{acts-kept, acts-moved}
 use Rattle.levels.proofs.Replies.{open-refused, open-passes}
-use Rattle.levels.proofs.Changes.{whole-stands, whole-rows, reason-kept, renewed-moved}
+use Rattle.trail.proofs.Changes.{whole-stands, whole-rows, reason-kept, renewed-moved}
 
 -- no atom is marked in an empty table
 none-touched : (atoms : List ℕ) → Each (λ a. word [] a ≡ 0) atoms
@@ -103,12 +103,12 @@ module _ (lim : Limits) (w : List ℕ) (len level : ℕ) (f : Fitting lim) (h : 
       (subst (λ (o : Outcome). T (is-refusal (o .answer) || false)) (sym e) tt)
       (ap (λ (o : Outcome). paper (o .answer)) (sym e))
 
-  pub open-raises : level < lim .levels → (w″ : List ℕ) → w″ ≡ headed w n len (level + 1)
+  pub open-raises : level < lim .levels → (m : ℕ) → m ≡ n → (w″ : List ℕ) → w″ ≡ headed w m len (level + 1)
       → Acts lim w w″ (counters len level) (counters len (level + 1)) open-level (paper done)
-  open-raises l w″ q =
+  open-raises l m o w″ q =
       let e = open-passes lim w (omega (arith, h .level-is)) in
       acts-moved lim w (counters len level) open-level (paper done) w″ (counters len (level + 1)) h
       (subst (λ (o : Outcome). T (not (is-refusal (o .answer) || false))) (sym e) tt)
       (ap (λ (o : Outcome). paper (o .answer)) (sym e))
-      (subst (λ (v : List ℕ). Moved lim w v (counters len (level + 1)) (reply (area-state lim w) open-level)) (sym q)
+      (subst (λ (v : List ℕ). Moved lim w v (counters len (level + 1)) (reply (area-state lim w) open-level)) (sym (q ∙ ap {A = ℕ} (λ k. headed w k len (level + 1)) o))
       (subst (Moved lim w (headed w n len (level + 1)) (counters len (level + 1))) (sym e) (open-moves l)))

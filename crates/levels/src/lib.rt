@@ -6,11 +6,11 @@ use types::Limits;
 ghost use Rattle.types.specs.Limits.{Fitting};
 ghost use Rattle.book.specs.Table.{open-level, take-back};
 ghost use Rattle.calls.specs.Calls.{counted, done-paper, Acts};
-ghost use Rattle.levels.specs.Levels.{Asked};
+ghost use Rattle.trail.specs.Ready.{Usable};
 
 // On a whole area: only the level in word 0 rises.
 pub fn open_whole(area: &mut [u64], lim: Limits, counters: Counters) -> Done
-    requires { ⌜ Asked lim (now area) (counted counters) ⌝ }
+    requires { ⌜ Usable lim (now area) (counted counters) ⌝ }
     ensures { λ r. ⌜ Acts lim (now (area .entry)) (now (area .exit)) (counted counters) (counted (r .counters)) open-level (done-paper r) ⌝ }
 {
     let len = counters.length;
@@ -21,7 +21,7 @@ pub fn open_whole(area: &mut [u64], lim: Limits, counters: Counters) -> Done
             counters: counters,
         };
     }
-    let n = (area[0] % 65536) as usize;
+    let n = area::atoms_of(area);
     step::set_header(area, n, len as usize, level + 1);
     let next = Counters {
         length: len,
@@ -50,7 +50,7 @@ pub fn open_within(area: &mut [u64], lim: Limits, counters: Counters) -> Done
 
 // On a whole area: the rows above level k go, and each sentence that has an atom of theirs is renewed and marked as pending.
 fn take_back_whole(area: &mut [u64], lim: Limits, counters: Counters, k: u64) -> Done
-    requires { ⌜ Asked lim (now area) (counted counters) ⌝ }
+    requires { ⌜ Usable lim (now area) (counted counters) ⌝ }
     ensures { λ r. ⌜ Acts lim (now (area .entry)) (now (area .exit)) (counted counters) (counted (r .counters)) (take-back k) (done-paper r) ⌝ }
 {
     let len = counters.length;
@@ -67,8 +67,8 @@ fn take_back_whole(area: &mut [u64], lim: Limits, counters: Counters, k: u64) ->
             counters: counters,
         };
     }
-    let n = (area[0] % 65536) as usize;
-    let count = (area[0] / 65536 % 65536) as usize;
+    let n = area::atoms_of(area);
+    let count = area::sentences_of(area);
     let mut touched = [0u8; 4097];
     let left = step::cut(area, n, len as usize, k, &mut touched);
     step::set_header(area, n, left, k);

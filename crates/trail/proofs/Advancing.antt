@@ -13,20 +13,20 @@ use Rattle.meaning.specs.Meaning.{atom}
 use Rattle.meaning.specs.Merge.{Rule, scope}
 use Rattle.meaning.specs.Computed.{standing}
 use Rattle.book.specs.Rows.{Row, row, trail}
-use Rattle.area.specs.Layout.{word, atoms-of, sentences-of, level-of, row-at, rows-from, rows-of, record-at}
+use Rattle.area.specs.Layout.{word, atoms-of, sentences-of, level-of, row-at, rows-from, rows-of}
 use Rattle.area.specs.Whole.{Reasoned}
 use Rattle.whole.specs.Parts.{counters, Parts}
 use Rattle.whole.proofs.Join.{parts}
 use Rattle.trail_check.proofs.Rows.{atom-of}
 use Rattle.refresh.specs.Refresh.{Refreshable, Refreshed}
-use Rattle.whole.proofs.Frame.{same-record}
-use Rattle.whole.proofs.Theories.{SameTheory, theory-behind, rule-stays}
+use Rattle.whole.proofs.Theories.{rule-stays}
 use Rattle.refresh.proofs.WholeNext.{TrailChanged, RenewedWhole, refreshable, renewed-whole}
 use Rattle.step.specs.Step.{Standing, put-on, Puttable}
 use Rattle.step.specs.Stands.{Stands}
 use Rattle.step.proofs.Rows.{same-or-not}
 use Rattle.step.proofs.PutOn.{Grown, put-stands}
 use Rattle.trail.specs.Trail.{Advanceable, Advanced}
+use Rattle.trail.proofs.Changes.{whole-stands, whole-rows, theory-same, reason-kept}
 
 module _ (lim : Limits) (w : List ℕ) (len level literal mark : ℕ) (a : Advanceable lim w (atoms-of w) (sentences-of w) len level literal mark) where
   abbrev n : ℕ
@@ -42,24 +42,12 @@ module _ (lim : Limits) (w : List ℕ) (len level literal mark : ℕ) (a : Advan
   old = parts lim w len level (a .whole)
 
   pub trail-stands : Standing lim w n len level
-  trail-stands = record {
-    fitting = a .fitting;
-    atoms = refl;
-    header = old .header;
-    trail-ok = old .trail-ok;
-    fits = omega (arith, old .header .level-limit, a .fitting .levels);
-  }
+  trail-stands = whole-stands lim w len level (a .fitting) (a .whole)
 
   grown : Grown lim w w′ n len level literal mark
   grown = put-stands lim w n len level literal trail-stands (a .puttable) mark (a .level-is)
 
   -- ---- reasons
-
-  same : SameTheory w w′ n S
-  same =
-      theory-behind (grown .size)
-      (λ s h. same-record w w′ (record-at n s) (λ i l u. grown .behind i (omega arith)) (old .sentences s h .words .tag))
-      (λ i l. grown .behind i (omega arith))
 
   -- the last row
   added : row-at w′ n len ≡ row (literal-of literal) level (mark / 65536 % 65536)
@@ -78,29 +66,14 @@ module _ (lim : Limits) (w : List ℕ) (len level literal mark : ℕ) (a : Advan
     given = λ z. grown .place ∙ a .given (sym added-reason ∙ z);
     derived = λ s e.
         let q : mark / 65536 % 65536 ≡ suc s = sym added-reason ∙ e in
-        ap₂ {A = Rule} {B = ℕ} (λ x j. getD (scope x) j 0) (rule-stays same s (omega (arith, a .few))) (grown .place)
+        ap₂ {A = Rule} {B = ℕ} (λ x j. getD (scope x) j 0) (rule-stays (theory-same lim w w′ (counters len level) (a .whole) (grown .size) (grown .behind)) s (omega (arith, a .few))) (grown .place)
         ∙ a .derived s q ∙ sym added-atom;
   }
 
-  reason-kept : (i : ℕ) → i < len → Reasoned w′ n S i
-  reason-kept i l =
-      let m = grown .marks i l in
-      let r = old .reasons i l in
-      let reason : row-at w′ n i .reason ≡ row-at w n i .reason = ap {A = ℕ} (λ x. x / 65536 % 65536) m in
-      let place = ap {A = ℕ} (λ x. x / 4294967296) m in
-      record {
-        few = omega (arith, reason, r .few);
-        given = λ z. place ∙ r .given (sym reason ∙ z);
-        derived = λ s e.
-            let q : row-at w n i .reason ≡ suc s = sym reason ∙ e in
-            ap₂ {A = Rule} {B = ℕ} (λ x j. getD (scope x) j 0) (rule-stays same s (omega (arith, r .few))) place
-            ∙ r .derived s q ∙ ap {A = ℕ} (λ x. atom (literal-of x)) (sym (grown .literals i l));
-      }
+  old-reason : (i : ℕ) → i < len → Reasoned w′ n S i
+  old-reason i l = reason-kept lim w w′ (counters len level) (a .whole) (grown .size) (grown .behind) i (old .reasons i l) (grown .literals i l) (grown .marks i l)
 
   -- ---- renewed
-
-  own-rows : rows-of w ≡ rows-from w n len
-  own-rows = ap {A = ℕ} (rows-from w n) (a .whole .length-is)
 
   module _ (touched : List ℕ) (marked : word touched (literal / 2) ≡ 1) where
     changed : TrailChanged lim w w′ (len + 1) level touched
@@ -111,9 +84,9 @@ module _ (lim : Limits) (w : List ℕ) (len level literal mark : ℕ) (a : Advan
       rest = grown .behind;
       header = grown .stands .header;
       trail-ok = grown .stands .trail-ok;
-      reasons = λ i l. same-or-not i len (λ e. rw e reason-added) (λ d. reason-kept i (omega arith));
+      reasons = λ i l. same-or-not i len (λ e. rw e reason-added) (λ d. old-reason i (omega arith));
       standings = λ x l h z.
-          ap {A = List Row} (λ rs. standing (trail rs) x) own-rows
+          ap {A = List Row} (λ rs. standing (trail rs) x) (whole-rows lim w len level (a .whole))
           ∙ sym (grown .standings x l h (λ e. let b : ⊥ = omega (arith, ap {A = ℕ} (word touched) e, marked) in b));
     }
 
@@ -130,7 +103,7 @@ module _ (lim : Limits) (w : List ℕ) (len level literal mark : ℕ) (a : Advan
         atoms = renewed .atoms;
         theory = renewed .theory;
         level-same = renewed .level-is ∙ sym (a .whole .level-is);
-        rows = renewed .rows ∙ grown .rows ∙ ap {A = List Row} (λ rs. row (literal-of literal) level (mark / 65536 % 65536) ∷ rs) (sym own-rows);
+        rows = renewed .rows ∙ grown .rows ∙ ap {A = List Row} (λ rs. row (literal-of literal) level (mark / 65536 % 65536) ∷ rs) (sym (whole-rows lim w len level (a .whole)));
         size = renewed .size;
         rest = renewed .rest;
       }

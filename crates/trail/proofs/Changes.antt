@@ -1,4 +1,4 @@
--- What is common to the steps on levels: a whole area stands for the steps on the trail's words; a row that keeps its words keeps a right
+-- What is common to the steps on the trail: a whole area stands for the steps on the trail's words; a row that keeps its words keeps a right
 -- reason, as the theory stays; and an area that is whole after its trail changed is what the table's outcome asks.
 use mathlib.Core.Path.{_≡_, refl, sym, ap, ap₂, _∙_, subst}
 use mathlib.Core.List.{List}
@@ -43,7 +43,7 @@ module _ (lim : Limits) (w w′ : List ℕ) (c : Counters) (h : Whole lim w c) (
   abbrev S : ℕ
   S = sentences-of w
 
-  theory-same : SameTheory w w′ n S
+  pub theory-same : SameTheory w w′ n S
   theory-same =
       theory-behind size
       (λ s l. same-record w w′ (record-at n s) (λ i m u. rest i (omega arith)) (h .theory .each s l .tag))

@@ -1,18 +1,18 @@
 -- What give answers and leaves on a whole area, by its tests: no atom has the literal's number (10), the atom's value word is not 0 (11),
 -- and otherwise the literal is put on at the current level with no reason.
-use mathlib.Core.Path.{_≡_, refl, sym, _∙_, ap, ap₂, subst}
-use mathlib.Core.Bool.{Bool, true, false, not, cond, _&&_, _||_}
+use mathlib.Core.Path.{_≡_, refl, sym, _∙_, ap, subst}
+use mathlib.Core.Bool.{Bool, true, false, not, _||_}
 use mathlib.Core.List.{List}
-use Prim.Native.Nat.{ℕ, _+_, _/_, _<_, _≤_}
+use Prim.Native.Nat.{ℕ, _+_, _/_, _≤_}
 use native.Mathlib.Omega.{arith}
 use lib.IntN.{ℤ, pos, negsuc}
-use lib.Dec.{T, leb}
-use borrow.Author.Tests.{le-leb, lt-leb}
+use lib.Dec.{T}
 use Rattle.types.specs.declared.Limits.{Limits}
 use Rattle.numbers.specs.Words.{literal-word}
 use Rattle.numbers.proofs.Words.{literal-of-word}
 use Rattle.meaning.specs.Meaning.{atom}
-use Rattle.book.specs.Table.{give, refused, done, paper, no-atom, on-trail, Outcome, unchanged, effect, reply}
+use Rattle.literals.proofs.Atoms.{known-within}
+use Rattle.book.specs.Table.{give, refused, done, paper, State, no-atom, Outcome, effect, reply}
 use Rattle.book.specs.Book.{Counters}
 use Rattle.area.specs.Layout.{atoms-of, sentences-of, value-at}
 use Rattle.whole.specs.Parts.{counters}
@@ -34,42 +34,20 @@ literal-word-low (pos a) h = omega arith
 literal-word-low (negsuc a) h = omega arith
 
 module _ (lim : Limits) (w : List ℕ) (c : Counters) (u : Usable lim w c) (l : ℤ) where
+  abbrev q : State
+  q = area-state lim w
+
   -- ---- refused
 
-  not-an-atom : no-atom (area-state lim w) l ≡ true → reply (area-state lim w) (give l) ≡ unchanged (area-state lim w) (refused 10 0)
+  pub give-strange : no-atom q l ≡ true → Acts lim w w c c (give l) (paper (refused 10 0))
   unfolding reply
-  not-an-atom e =
-      ap {A = Bool} (λ b. cond b (unchanged (area-state lim w) (refused 10 0)) (cond (on-trail (area-state lim w) (atom l)) (unchanged (area-state lim w) (refused 11 0)) (effect (area-state lim w) (give l)))) e
-
-  strange : no-atom (area-state lim w) l ≡ true → Acts lim w w c c (give l) (paper (refused 10 0))
-  strange e = acts-refused lim w c (give l) (u .whole) 10 (ap {A = Outcome} (λ o. o .answer) (not-an-atom e))
-
-  pub give-zero : atom l ≡ 0 → Acts lim w w c c (give l) (paper (refused 10 0))
-  give-zero e = strange (ap {A = Bool} (λ b. not (b && leb (atom l) (atoms-of w))) (lt-leb 1 (atom l) (omega arith)))
-
-  pub give-high : atoms-of w < atom l → Acts lim w w c c (give l) (paper (refused 10 0))
-  give-high h =
-      let e : leb 1 (atom l) ≡ true = le-leb 1 (atom l) (omega arith) in
-      let f : leb (atom l) (atoms-of w) ≡ false = lt-leb (atom l) (atoms-of w) h in
-      strange (ap₂ {A = Bool} {B = Bool} (λ x y. not (x && y)) e f)
+  give-strange e = acts-refused lim w c (give l) (u .whole) 10 (rw e)
 
   module _ (low : 1 ≤ atom l) (high : atom l ≤ atoms-of w) where
-    an-atom : no-atom (area-state lim w) l ≡ false
-    an-atom = ap₂ {A = Bool} {B = Bool} (λ x y. not (x && y)) (le-leb 1 (atom l) low) (le-leb (atom l) (atoms-of w) high)
-
-    by-trail : reply (area-state lim w) (give l)
-        ≡ cond (on-trail (area-state lim w) (atom l)) (unchanged (area-state lim w) (refused 11 0)) (effect (area-state lim w) (give l))
-    unfolding reply
-    by-trail =
-        ap {A = Bool} (λ b. cond b (unchanged (area-state lim w) (refused 10 0)) (cond (on-trail (area-state lim w) (atom l)) (unchanged (area-state lim w) (refused 11 0)) (effect (area-state lim w) (give l)))) an-atom
-
     pub give-taken : ¬ (value-at w (atoms-of w) (atom l) ≡ 0) → Acts lim w w c c (give l) (paper (refused 11 0))
+    unfolding reply
     give-taken d =
-        acts-refused lim w c (give l) (u .whole) 11
-        (ap {A = Outcome} (λ o. o .answer)
-        (by-trail
-        ∙ ap {A = Bool} (λ b. cond b (unchanged (area-state lim w) (refused 11 0)) (effect (area-state lim w) (give l)))
-        (taken-on-trail lim w c (u .whole) (atom l) low high d)))
+        acts-refused lim w c (give l) (u .whole) 11 (rw (known-within (atoms-of w) l low high, taken-on-trail lim w c (u .whole) (atom l) low high d))
 
     -- ---- done
 
@@ -94,11 +72,9 @@ module _ (lim : Limits) (w : List ℕ) (c : Counters) (u : Usable lim w c) (l : 
         derived = λ s e. let b : ⊥ = omega (arith, level-small) in absurd b;
       }
 
-      pub has-effect : reply (area-state lim w) (give l) ≡ effect (area-state lim w) (give l)
-      has-effect =
-          by-trail
-          ∙ ap {A = Bool} (λ b. cond b (unchanged (area-state lim w) (refused 11 0)) (effect (area-state lim w) (give l)))
-          (open-off-trail lim w c (u .whole) (atom l) low high free)
+      pub has-effect : reply q (give l) ≡ effect q (give l)
+      unfolding reply
+      has-effect = rw (known-within (atoms-of w) l low high, open-off-trail lim w c (u .whole) (atom l) low high free)
 
       module _ (w′ : List ℕ) (a : Advanced lim w w′ (c .length-is) (c .level-is) (literal-word l) (c .level-is)) where
         moved : Moved lim w w′ (counters (c .length-is + 1) (c .level-is)) (effect (area-state lim w) (give l))

@@ -1,3 +1,4 @@
+pub mod Changes
 pub mod Advancing
 pub mod OnTrail
 pub mod Giving

@@ -38,14 +38,14 @@ pub fn advance(area: &mut [u64], n: usize, count: usize, len: usize, literal: u6
 // ---- give
 
 // The word of a literal of that size.
-fn word_of(literal: i64, size: u64) -> u64
+fn word_of(literal: i64, size: usize) -> u64
     requires { ⌜ (size ≡ atom literal) × (size ≤ widest .atoms) ⌝ }
     ensures { λ r. ⌜ r ≡ literal-word literal ⌝ }
 {
     if signed::negative(literal) {
-        return 2 * size + 1;
+        return 2 * size as u64 + 1;
     }
-    2 * size
+    2 * size as u64
 }
 
 // The caller's literal on a whole area, put on at the current level with no reason.
@@ -53,19 +53,16 @@ pub fn give_whole(area: &mut [u64], counters: Counters, literal: i64) -> Done
     requires { ⌜ Ready (now area) (counted counters) ⌝ }
     ensures { λ r. ⌜ ((lim : Limits) → Usable lim (now (area .entry)) (counted counters) → Acts lim (now (area .entry)) (now (area .exit)) (counted counters) (counted (r .counters)) (give literal) (done-paper r)) ⌝ }
 {
-    let n = (area[0] % 65536) as usize;
-    let size = signed::size(literal);
-    if size == 0 {
+    let n = area::atoms_of(area);
+    let atom = literals::atom_of(literal, n);
+    if atom == 0 {
         return Done { code: 10, counters };
     }
-    if size > n as u64 {
-        return Done { code: 10, counters };
-    }
-    if area[n - 1 + size as usize] != 0 {
+    if area::value_at(area, n, atom) != 0 {
         return Done { code: 11, counters };
     }
-    let count = (area[0] / 65536 % 65536) as usize;
-    let word = word_of(literal, size);
+    let count = area::sentences_of(area);
+    let word = word_of(literal, atom);
     let length = counters.length;
     let level = counters.level;
     advance(area, n, count, length as usize, word, level.0);

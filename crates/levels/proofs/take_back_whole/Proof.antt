@@ -2,34 +2,28 @@
 use mathlib.Core.Path.{refl}
 use native.Mathlib.Omega.{arith}
 use borrow.Author.Needs.{needs}
-use Rattle.levels.proofs.Changes.{whole-stands}
+use Rattle.trail.proofs.Changes.{whole-stands}
 use Rattle.levels.proofs.Lowering.{take-back-stops, take-back-stays, lowered-refreshable, take-back-lowers}
 use Rattle.levels.proofs.take_back_whole.Statement.{statement}
 use Rattle.levels.proofs.take_back_whole.Tie as tie
 
-returns : tie.Need-returns
-returns c = let s = c .before .before in
-    take-back-stops (s .args .lim) (s .args .area .now) (s .args .counters .length) (s .args .counters .level .0) (s .args .k) (s .pre .fitting) (s .pre .whole) (omega arith)
-
-returns-2 : tie.Need-returns-2
-returns-2 c = let s = c .before .before .before in
-    take-back-stays (s .args .lim) (s .args .area .now) (s .args .counters .length) (s .args .counters .level .0) (s .args .k) (s .pre .fitting) (s .pre .whole) (omega arith)
-
 cut-requires : tie.Need-cut-requires
-cut-requires c κs = let s = c .before .before .before .before .before .before .before in
-    (record { lim = s .args .lim; level = s .args .counters .level .0; standing = whole-stands (s .args .lim) (s .args .area .now) (s .args .counters .length) (s .args .counters .level .0) (s .pre .fitting) (s .pre .whole) }, refl)
+cut-requires c κs = let s = c .before .before .before .before .before .before .before .before .before in
+    rw (c .before .before .before .before .atoms-of .ensures) (record { lim = s .args .lim; level = s .args .counters .level .0; standing = whole-stands _ _ _ _ (s .pre .fitting) (s .pre .whole) }, refl)
 
 refresh-requires : tie.Need-refresh-requires
-refresh-requires c κs = let s = c .before .before .before .before .before .before .before .before .before .before .before .before .before .before .before .before .before in
-    (s .args .lim, lowered-refreshable (s .args .lim) (s .args .area .now) (s .args .counters .length) (s .args .counters .level .0) (s .args .k) (s .pre .fitting) (s .pre .whole) (omega arith) _ _ _ (c .before .before .before .before .before .before .before .before .before .cut .ensures) _ (c .before .before .before .before .set-header .ensures))
+refresh-requires c κs = let s = c .before .before .before .before .before .before .before .before .before .before .before .before .before .before .before .before .before .before .before in
+    let e = c .before .before .before .before .before .before .before .before .before .before .before .before .before .before .atoms-of .ensures in
+    rw (e, c .before .before .before .before .before .before .before .before .before .before .before .before .sentences-of .ensures) (s .args .lim, lowered-refreshable _ _ _ _ (s .args .k) (s .pre .fitting) (s .pre .whole) (omega arith) _ _ _ (rw e at (c .before .before .before .before .before .before .before .before .before .cut .ensures)) _ (rw e at (c .before .before .before .before .set-header .ensures)))
 
 returns-3 : tie.Need-returns-3
-returns-3 c = let s = c .before .before .before .before .before .before .before .before .before .before .before .before .before .before .before .before .before .before .before .before in
-    take-back-lowers (s .args .lim) (s .args .area .now) (s .args .counters .length) (s .args .counters .level .0) (s .args .k) (s .pre .fitting) (s .pre .whole) (omega arith) _ _ _ (c .before .before .before .before .before .before .before .before .before .before .before .before .cut .ensures) _ _ (c .before .before .before .before .before .before .before .set-header .ensures) (c .before .before .refresh .ensures)
+returns-3 c = let s = c .before .before .before .before .before .before .before .before .before .before .before .before .before .before .before .before .before .before .before .before .before .before in
+    let e = c .before .before .before .before .before .before .before .before .before .before .before .before .before .before .before .before .before .atoms-of .ensures in
+    take-back-lowers _ _ _ _ (s .args .k) (s .pre .fitting) (s .pre .whole) (omega (arith, c .before .before .before .before .before .before .before .before .before .before .before .before .before .before .before .before .before .before .before .before .if1 .left, c .before .before .before .before .before .before .before .before .before .before .before .before .before .before .before .before .before .before .before .if2 .left)) _ _ _ (rw e at (c .before .before .before .before .before .before .before .before .before .before .before .before .cut .ensures)) _ _ (rw e at (c .before .before .before .before .before .before .before .set-header .ensures)) (rw (e, c .before .before .before .before .before .before .before .before .before .before .before .before .before .before .before .sentences-of .ensures) at (c .before .before .refresh .ensures))
 
 pub take-back-whole-spec : {M : Type 1} → statement M
 take-back-whole-spec =
     tie.close
     (tie.spec
-    returns returns-2 (λ c. search needs) (λ c. search needs) (λ c. search needs) cut-requires (λ c κs. search needs) (λ c. search needs)
-    refresh-requires (λ c. search needs) returns-3)
+    (λ c. search (take-back-stops, arith)) (λ c. search (take-back-stays, arith)) (λ c κs. search needs) (λ c κs. search needs) (λ c. search needs)
+    cut-requires (λ c κs. search needs) (λ c. search needs) refresh-requires (λ c. search needs) returns-3)
