@@ -1,5 +1,5 @@
 -- A literal's word as a signed number: each number on the way fits the machine's, so that its bits, read back, are the number itself.
-use mathlib.Core.Path.{_≡_, refl, sym, _∙_, ap}
+use mathlib.Core.Path.{_≡_, sym, _∙_, ap}
 use Prim.Native.Nat.{ℕ, zero, suc, _+_, _-_, _/_, _%_, _<_}
 use native.Mathlib.Omega.{arith}
 use lib.IntN.{ℤ, pos, negℤ, negℤ-negℤ, _-ℤ_, +ℤ-idl}

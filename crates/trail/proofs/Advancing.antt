@@ -1,6 +1,6 @@
 -- A literal of an open atom put on a whole area, with the bounds renewed, leaves a whole area of one row more: the trail's words are right
 -- (`put-stands`), the new row's reason has its atom, and no atom that is not touched stands otherwise (`renewed-whole`).
-use mathlib.Core.Path.{_≡_, refl, sym, _∙_, ap, ap₂, subst}
+use mathlib.Core.Path.{_≡_, sym, _∙_, ap, ap₂, subst}
 use mathlib.Core.List.{List, _∷_}
 use Prim.Native.Nat.{ℕ, suc, _+_, _/_, _%_, _<_}
 use native.Mathlib.Omega.{arith}

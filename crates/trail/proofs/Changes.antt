@@ -24,13 +24,7 @@ use Rattle.refresh.proofs.WholeNext.{RenewedWhole}
 pub whole-stands : (lim : Limits) (w : List ℕ) (len level : ℕ) → Fitting lim → Whole lim w (counters len level) → Standing lim w (atoms-of w) len level
 whole-stands lim w len level f h =
     let p = parts lim w len level h in
-    record {
-      fitting = f;
-      atoms = refl;
-      header = p .header;
-      trail-ok = p .trail-ok;
-      fits = omega (arith, h .level-limit, f .levels);
-    }
+    record { fitting = f; atoms = refl; header = p .header; trail-ok = p .trail-ok; fits = omega (arith, h .level-limit, f .levels) }
 
 pub whole-rows : (lim : Limits) (w : List ℕ) (len level : ℕ) → Whole lim w (counters len level) → rows-of w ≡ rows-from w (atoms-of w) len
 whole-rows lim w len level h = ap {A = ℕ} (rows-from w (atoms-of w)) (h .length-is)
