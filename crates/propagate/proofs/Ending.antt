@@ -58,15 +58,7 @@ module _ (lim : Limits) (w w′ : List ℕ) (len level len′ sentence : ℕ) (h
       ∙ ap₂ {A = ℕ} {B = ℕ} (λ a b. record { answer = ended sentence (a - b); level = level-of w; rows = rows-of w′ }) (whole-length w′ len′ (st .whole)) (whole-length w len h)
 
   moves : Moved lim w w′ (counters len′ level) outcome
-  moves = record {
-    whole = st .whole;
-    atoms = st .atoms;
-    theory = st .theory;
-    level = st .level-same;
-    rows = refl;
-    size = st .size;
-    rest = st .rest;
-  }
+  moves = record { whole = st .whole; atoms = st .atoms; theory = st .theory; level = st .level-same; rows = refl; size = st .size; rest = st .rest }
 
   acts : (p : Paper) → p ≡ paper (ended sentence (len′ - len)) → Acts lim w w′ (counters len level) (counters len′ level) propagate p
   acts p e =

@@ -30,8 +30,9 @@ use Rattle.whole.specs.Parts.{counters}
 use Rattle.whole.proofs.Join.{parts}
 use Rattle.whole.proofs.DeterminedPlaces.{place-in}
 use Rattle.trail.specs.Trail.{Advanceable}
+use Rattle.find.specs.declared.Found.{Found}
 use Rattle.find.specs.declared.Found.the-variants.{Forced}
-use Rattle.find.specs.Find.{Searchable, FoundIs}
+use Rattle.find.specs.Find.{spoken-of, Searchable, FoundIs}
 use Rattle.find.specs.Asked.{Asked}
 use Rattle.find.proofs.Sentences.{carried}
 use Rattle.propagate.proofs.Heard.{derived-open}
@@ -76,8 +77,8 @@ scope-within {lim} {n} {r} h = (
   places-each (λ a. a ≤ n) (r .set .entries) (each-map (EntryWhole n (r .head) (r .kind) (r .written)) (λ e. place e ≤ n) (r .set .entries) (λ e x. x .atom-high) (h .entries)),
 )
 
-module _ (lim : Limits) (w : List ℕ) (len level : ℕ) (fit : Fitting lim) (h : Whole lim w (counters len level)) (s l p : ℕ)
-    (f : FoundIs w (atoms-of w) (sentences-of w) (Forced s l p)) where
+module _ (lim : Limits) (w : List ℕ) (len level : ℕ) (fit : Fitting lim) (h : Whole lim w (counters len level)) {x : Found} {s l p : ℕ} (e : x ≡ Forced s l p)
+    (f : FoundIs w (atoms-of w) (sentences-of w) x) where
   abbrev n : ℕ
   n = atoms-of w
 
@@ -88,13 +89,13 @@ module _ (lim : Limits) (w : List ℕ) (len level : ℕ) (fit : Fitting lim) (h 
   rule = rule-at w n S (record-at n s)
 
   inside : s < S
-  inside = f .inside s l p refl
+  inside = f .inside s l p e
 
   low : 2 ≤ l
-  low = f .literal-low s l p refl
+  low = f .literal-low s l p e
 
   at-place : getD (scope rule) p 0 ≡ l / 2
-  at-place = f .place s l p refl
+  at-place = f .place s l p e
 
   high : l / 2 ≤ n
   high = in-each (λ a. a ≤ n) (l / 2) (scope rule) (place-in (scope rule) p (l / 2) (omega (arith, low)) at-place) (scope-within (h .theory .each s inside .rule))
@@ -105,7 +106,7 @@ module _ (lim : Limits) (w : List ℕ) (len level : ℕ) (fit : Fitting lim) (h 
       (sym (shows (parts lim w len level h .trail-ok) (l / 2) (omega (arith, low)) high)
       ∙ ap {A = ℕ} (λ k. standing (trail (rows-from w n k)) (l / 2)) (sym (h .length-is))
       ∙ ap {A = ℕ} (standing (trail (rows-of w))) (sym (atom-of l))
-      ∙ derived-open (trail (rows-of w)) (theory-of w) (suc s) (literal-of l) (f .speech-is))
+      ∙ derived-open (trail (rows-of w)) (theory-of w) (suc s) (literal-of l) (f .speech-is ∙ ap {A = Found} spoken-of e))
 
   -- past the merged entries stands no atom
   place-few : p ≤ 4096
@@ -146,14 +147,13 @@ module _ (lim : Limits) (w : List ℕ) (len level : ℕ) (fit : Fitting lim) (h 
   sizes : Sizes level s p
   sizes = record { level-is = level-low; sentence = few; place = place-few }
 
-module _ {lim : Limits} {w : List ℕ} {n S len level : ℕ} (a : Searchable lim w n S len level) (s l p : ℕ) (f : FoundIs w n S (Forced s l p)) where
+module _ {lim : Limits} {w : List ℕ} {n S len level : ℕ} (a : Searchable lim w n S len level) {x : Found} {s l p : ℕ} (f : FoundIs w n S x) (e : x ≡ Forced s l p) where
   asked : Asked w n S
   asked = record { lim = lim; len = len; level = level; searchable = a }
 
   pub forced-advanceable : Advanceable lim w n S len level l (mark level s p)
   forced-advanceable =
-      carried asked (λ n S. FoundIs w n S (Forced s l p) → Advanceable lim w n S len level l (mark level s p))
-      (advanceable lim w len level (a .fitting) (a .whole) s l p) f
+      carried asked (λ n S. FoundIs w n S x → Advanceable lim w n S len level l (mark level s p)) (advanceable lim w len level (a .fitting) (a .whole) e) f
 
   pub forced-sizes : Sizes level s p
-  forced-sizes = carried asked (λ n S. FoundIs w n S (Forced s l p) → Sizes level s p) (sizes lim w len level (a .fitting) (a .whole) s l p) f
+  forced-sizes = carried asked (λ n S. FoundIs w n S x → Sizes level s p) (sizes lim w len level (a .fitting) (a .whole) e) f

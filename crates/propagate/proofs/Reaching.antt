@@ -15,7 +15,7 @@ use Rattle.book.proofs.Keeps.{next}
 use Rattle.area.specs.Layout.{atoms-of, sentences-of, level-of, rows-from, rows-of, theory-of, need-of}
 use Rattle.whole.proofs.Join.{parts}
 use Rattle.refresh.proofs.WholeNext.{RenewedWhole}
-use Rattle.trail.specs.Trail.{Advanced}
+use Rattle.trail.specs.Trail.{Advanceable, Advanced}
 use Rattle.find.specs.declared.Found.{Found}
 use Rattle.find.specs.declared.Found.the-variants.{Nothing, Conflict, Forced}
 use Rattle.find.specs.Find.{spoken-of, Searchable, FoundIs}
@@ -23,7 +23,7 @@ use Rattle.propagate.specs.Stopped.{Stopped}
 use Rattle.propagate.specs.Settle.{Settleable, Settled}
 use Rattle.propagate.proofs.Needs.{sentences-same, need-same}
 use Rattle.propagate.proofs.Quiet.{settled-whole}
-use Rattle.propagate.proofs.Forcing.{mark, mark-reason, forced-sizes}
+use Rattle.propagate.proofs.Forcing.{mark, mark-reason, forced-advanceable, forced-sizes}
 
 -- from w₀ with a trail of len₀ rows, the loop has come to w with a trail of len rows
 pub record Reached (lim : Limits) (w₀ w : List ℕ) (n S level len₀ len : ℕ) : Type 0 where
@@ -55,9 +55,6 @@ reached-first {lim} {w} {n} {S} {level} {len} a = record {
   rest = refl;
 }
 
-pub found-here : {w : List ℕ} {n S : ℕ} {x y : Found} → FoundIs w n S x → x ≡ y → FoundIs w n S y
-found-here {w} {n} {S} f e = subst (FoundIs w n S) e f
-
 pub few-rows : {lim : Limits} {w : List ℕ} {n S len level : ℕ} → Searchable lim w n S len level → len ≤ n
 few-rows {lim} {w} {n} {S} {len} {level} a = omega (arith, parts lim w len level (a .whole) .header .few, a .atoms)
 
@@ -69,20 +66,24 @@ module _ {lim : Limits} {w₀ w : List ℕ} {n S level len₀ len : ℕ} (r : Re
   few = few-rows (r .searchable)
 
   -- what is left, by what is found
-  rest-of-run : (y : Found) → FoundIs w n S y → run js level (suc (atoms-of w₀)) (rows-of w₀) ≡ next js level (r .steps - 1) (rows-of w) (spoken-of y)
-  rest-of-run y f =
+  rest-of-run : {x y : Found} → FoundIs w n S x → x ≡ y → run js level (suc (atoms-of w₀)) (rows-of w₀) ≡ next js level (r .steps - 1) (rows-of w) (spoken-of y)
+  rest-of-run {x} {y} f q =
       let e : r .steps ≡ suc (r .steps - 1) = omega (arith, r .left, few) in
       r .run-same
       ∙ ap {A = ℕ} (λ k. run js level k (rows-of w)) e
       ∙ run-next js level (r .steps - 1) (rows-of w) (spoken-of y)
-      (ap {A = List Rule} (λ rs. speech 1 (judged-all rs) (trail (rows-of w))) (sym (r .theory)) ∙ f .speech-is)
+      (ap {A = List Rule} (λ rs. speech 1 (judged-all rs) (trail (rows-of w))) (sym (r .theory)) ∙ f .speech-is ∙ ap {A = Found} spoken-of q)
 
   -- ---- a literal put on
 
-  module _ (s l p : ℕ) (f : FoundIs w n S (Forced s l p)) (w′ : List ℕ) (a : Advanced lim w w′ len level l (mark level s p)) where
+  module _ {x : Found} {s l p : ℕ} (f : FoundIs w n S x) (e : x ≡ Forced s l p) (w′ : List ℕ)
+      (advance : Advanceable lim w n S len level l (mark level s p) → Advanced lim w w′ len level l (mark level s p)) where
+    a : Advanced lim w w′ len level l (mark level s p)
+    a = advance (forced-advanceable (r .searchable) f e)
+
     put-rows : rows-of w′ ≡ row (literal-of l) level (suc s) ∷ rows-of w
     put-rows =
-        let z = forced-sizes (r .searchable) s l p f in
+        let z = forced-sizes (r .searchable) f e in
         a .rows ∙ ap {A = ℕ} (λ k. row (literal-of l) level k ∷ rows-of w) (mark-reason level s p (z .level-is) (z .sentence))
 
     pub reached-next : Reached lim w₀ w′ n S level len₀ (len + 1)
@@ -98,21 +99,20 @@ module _ {lim : Limits} {w₀ w : List ℕ} {n S level len₀ len : ℕ} (r : Re
       level-same = a .level-same ∙ r .level-same;
       steps = r .steps - 1;
       left = omega (arith, r .left, few);
-      run-same = rest-of-run (Forced s l p) f ∙ ap {A = List Row} (run js level (r .steps - 1)) (sym put-rows);
+      run-same = rest-of-run f e ∙ ap {A = List Row} (run js level (r .steps - 1)) (sym put-rows);
       size = a .size ∙ r .size;
-      rest =
-          subst (λ (k : ℕ). drop k w′ ≡ drop k w) (need-same w₀ w (r .atoms) (r .theory)) (a .rest) ∙ r .rest;
+      rest = subst (λ (k : ℕ). drop k w′ ≡ drop k w) (need-same w₀ w (r .atoms) (r .theory)) (a .rest) ∙ r .rest;
     }
 
   -- ---- the ends
 
-  pub reached-conflict : (s : ℕ) → FoundIs w n S (Conflict s) → Stopped lim w₀ w level len (s + 1)
-  reached-conflict s f = record {
+  pub reached-conflict : {x : Found} {s : ℕ} → FoundIs w n S x → x ≡ Conflict s → Stopped lim w₀ w level len (s + 1)
+  reached-conflict {x} {s} f q = record {
     whole = r .searchable .whole;
     atoms = r .atoms;
     theory = r .theory;
     level-same = r .level-same;
-    stop = rest-of-run (Conflict s) f ∙ (let e : suc s ≡ s + 1 = omega arith in ap (λ (k : ℕ). record { sentence = k; rows = rows-of w }) e);
+    stop = rest-of-run f q ∙ (let e : suc s ≡ s + 1 = omega arith in ap (λ (k : ℕ). record { sentence = k; rows = rows-of w }) e);
     size = r .size;
     rest = r .rest;
   }
@@ -127,12 +127,12 @@ module _ {lim : Limits} {w₀ w : List ℕ} {n S level len₀ len : ℕ} (r : Re
         records = omega (arith, h .enough, a .atoms, a .sentences);
       }
 
-  module _ (f : FoundIs w n S Nothing) (w′ : List ℕ) (done : Settled w w′ n S) where
+  module _ {x : Found} (f : FoundIs w n S x) (e : x ≡ Nothing) (w′ : List ℕ) (done : Settled w w′ n S) where
     settled : RenewedWhole lim w w w′ len level
     settled =
         settled-whole lim w w′ len level (r .searchable .whole)
         (subst (λ (m : ℕ). Settled w w′ m (sentences-of w)) (sym (r .searchable .atoms)) (subst (λ (k : ℕ). Settled w w′ n k) (sym (r .searchable .sentences)) done))
-        (f .speech-is)
+        (f .speech-is ∙ ap {A = Found} spoken-of e)
 
     pub reached-still : Stopped lim w₀ w′ level len 0
     reached-still =
@@ -143,7 +143,7 @@ module _ {lim : Limits} {w₀ w : List ℕ} {n S level len₀ len : ℕ} (r : Re
           theory = q .theory ∙ r .theory;
           level-same = q .level-is ∙ sym (r .searchable .whole .level-is) ∙ r .level-same;
           stop =
-              rest-of-run Nothing f
+              rest-of-run f e
               ∙ ap (λ (rs : List Row). record { sentence = 0; rows = rs }) (ap {A = ℕ} (rows-from w (atoms-of w)) (r .searchable .whole .length-is) ∙ sym (q .rows));
           size = q .size ∙ r .size;
           rest = subst (λ (k : ℕ). drop k w′ ≡ drop k w) (need-same w₀ w (r .atoms) (r .theory)) (q .rest) ∙ r .rest;

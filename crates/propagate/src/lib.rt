@@ -44,8 +44,7 @@ fn settle(area: &mut [u64], n: usize, count: usize)
 {
     let mut s: usize = 0;
     while s < count {
-        let at = 4 * n + 8 * s + 1;
-        area[at] = area[at] % 16;
+        area::clear_pending(area, 4 * n + 8 * s);
         s += 1;
     }
 }
@@ -88,8 +87,8 @@ pub fn propagate_whole(area: &mut [u64], counters: Counters) -> Propagated
 {
     let len = counters.length;
     let level = counters.level;
-    let n = (area[0] % 65536) as usize;
-    let count = (area[0] / 65536 % 65536) as usize;
+    let n = area::atoms_of(area);
+    let count = area::sentences_of(area);
     let end = run(area, n, count, len as usize, level.0);
     let length = end.length as u64;
     let put = length - len;
