@@ -1,13 +1,16 @@
 -- What an accepted load has: no refusal applies, so the columns belong together, the area is long enough and every sentence passes. The
 -- answer of the sentences from s on stays 0 as s grows, and a sentence whose code is not 0 would be the answer.
 use mathlib.Core.Path.{_≡_, refl, sym, ap, _∙_}
-use mathlib.Core.Bool.{Bool, true, false}
+use mathlib.Core.Bool.{true, false}
+use mathlib.Core.Logic.{⊎-elim}
 use Prim.Native.Nat.{ℕ, zero, suc, _+_, _<_, _≤_}
 use native.Mathlib.Omega.{arith}
-use lib.Dec.{eqb, ltb}
+use lib.Dec.{eqb}
 use lib.ListN.{length}
-use borrow.Author.Tests.{eqb-true, eqb-false, ltb-true, ltb-false}
+use borrow.Author.Tests.{eqb-true, eqb-false}
 use Rattle.types.specs.declared.Limits.{Limits}
+use Rattle.numbers.proofs.Words.{cases}
+use Rattle.meaning.proofs.Orders.{is-true, is-false}
 use Rattle.decide.specs.Below.{sum-first}
 use Rattle.meaning.specs.Meaning.{Sentence, Each}
 use Rattle.columns.specs.Columns.{Columns, Written, written-at, written-from, all-written, sentence-of, sentences-in}
@@ -25,13 +28,11 @@ module _ (lim : Limits) (n : ℕ) (c : Columns) where
   code-at s = sentence-code lim n (written-at c s)
 
   code-zero : (s : ℕ) → s < length (c .heads) → answer-from lim n c s .code ≡ 0 → code-at s ≡ 0
-  code-zero s l z = go (eqb (code-at s) 0) refl
-    where
-      go : (b : Bool) → eqb (code-at s) 0 ≡ b → code-at s ≡ 0
-      go true e = eqb-true (code-at s) 0 e
-      go false e =
-          let d : code-at s ≡ 0 → ⊥ = eqb-false (code-at s) 0 e in
-          absurd (d (sym (ap (λ (a : Answer). a .code) (from-here lim n c s l d)) ∙ z))
+  code-zero s l z = elim (eqb (code-at s) 0) as (λ b. eqb (code-at s) 0 ≡ b → code-at s ≡ 0) [
+    | true ↦ eqb-true (code-at s) 0
+    | false ↦ λ e. let d : code-at s ≡ 0 → ⊥ = eqb-false (code-at s) 0 e in absurd (d (sym (ap (λ (a : Answer). a .code) (from-here lim n c s l d)) ∙ z))
+  ]
+      refl
 
   stays-zero : (s : ℕ) → s ≤ length (c .heads) → answer-from lim n c 0 .code ≡ 0 → answer-from lim n c s .code ≡ 0
   stays-zero zero l z = z
@@ -43,20 +44,12 @@ module _ (lim : Limits) (n : ℕ) (c : Columns) where
 
 module _ (lim : Limits) (words n : ℕ) (c : Columns) (z : load-answer lim words n c .code ≡ 0) where
   shape-holds : misshapen lim n c ≡ false
-  shape-holds = go (misshapen lim n c) refl
-    where
-      go : (b : Bool) → misshapen lim n c ≡ b → misshapen lim n c ≡ false
-      go true e = let w : 1 ≡ load-answer lim words n c .code = ap (λ (a : Answer). a .code) (answer-1 lim words n c e) in absurd (omega arith)
-      go false e = e
+  shape-holds = is-false (λ t. let w : 1 ≡ load-answer lim words n c .code = ap (λ (a : Answer). a .code) (answer-1 lim words n c (is-true t)) in omega arith)
 
   need-holds : need n c ≤ words
-  need-holds = go (ltb words (need n c)) refl
-    where
-      go : (b : Bool) → ltb words (need n c) ≡ b → need n c ≤ words
-      go true e =
-          let w : 2 ≡ load-answer lim words n c .code = ap (λ (a : Answer). a .code) (answer-2 lim words n c shape-holds (ltb-true words (need n c) e)) in
-          absurd (omega arith)
-      go false e = ltb-false words (need n c) e
+  need-holds = ⊎-elim (λ (p : need n c ≤ words). p)
+      (λ (p : words < need n c). let w : 2 ≡ load-answer lim words n c .code = ap (λ (a : Answer). a .code) (answer-2 lim words n c shape-holds p) in absurd (omega arith))
+      (cases words (need n c))
 
   sentences-pass : (s : ℕ) → s < length (c .heads) → Passes lim n (written-at c s)
   sentences-pass s l =

@@ -34,8 +34,7 @@ row : ℕ → ℕ → Columns → ℕ → ℕ → Row
 row words atoms given code sentence = record { words = words; atoms = atoms; given = given; code = code; sentence = sentence }
 
 rows : List Row
-rows =
-    row 4 1 (columns [] [] [] [] [] [] []) 0 0 ∷ row 3 1 (columns [] [] [] [] [] [] []) 2 0 ∷ row 4096 1024 (columns [] [] [] [] [] [] []) 0 0
+rows = row 4 1 (columns [] [] [] [] [] [] []) 0 0 ∷ row 3 1 (columns [] [] [] [] [] [] []) 2 0 ∷ row 4096 1024 (columns [] [] [] [] [] [] []) 0 0
     ∷ row 9999 0 (columns [] [] [] [] [] [] []) 1 0 ∷ row 9999 1025 (columns [] [] [] [] [] [] []) 1 0
     ∷ row 9999 18446744073709551615 (columns [] [] [] [] [] [] []) 1 0 ∷ row 9999 4 (columns (3 ∷ []) [] [] [] [] [] []) 1 0
     ∷ row 34 4 (two 4 1 0) 0 0 ∷ row 34 4 (two 5 1 0) 3 2 ∷ row 33 4 (two 5 1 0) 2 0 ∷ row 34 4 (two 4 1 1) 1 0

@@ -1,7 +1,7 @@
 pub mod Clauses
 pub mod Paired
-pub mod Written
 pub mod Codes
+pub mod Written
 pub mod Shapes
 pub mod Walk
 pub mod Answers

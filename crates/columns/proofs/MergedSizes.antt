@@ -2,54 +2,21 @@
 -- constant are at most the greatest size times the written entries; a factor of a product is at most the product; max and min keep one of
 -- the written weights.
 use mathlib.Core.Path.{_≡_}
-use mathlib.Core.Bool.{Bool, true, false, cond, _&&_}
+use mathlib.Core.Bool.{Bool, true, false, cond}
 use mathlib.Core.List.{List, [], _∷_}
 use Prim.Native.Nat.{ℕ, suc, _+_, _*_, _≤_}
 use native.Mathlib.Omega.{arith}
 use native.Mathlib.Nat.{le-mul-of-pos-right, mul-comm}
-use lib.IntN.{ℤ, pos, negsuc, negℤ, natAbs, _+ℤ_, _*ℤ_}
+use lib.IntN.{ℤ, pos, negsuc, natAbs, _+ℤ_, _*ℤ_}
 use lib.ListN.{length}
 use lib.Dec.{T, leb→le, le→leb}
 use lib.Signed.{leZ}
-use Rattle.numbers.specs.Integers.{positive, negative}
-use Rattle.numbers.proofs.Integers.{ints, sum-parts, neg-parts, size-parts, product-mono}
-use Rattle.meaning.specs.Meaning.{Entry, Kind, sum, product, count, maximum, minimum, same, once, ones, multiplied, Each}
+use Rattle.numbers.proofs.Integers.{sum-size, neg-size, product-mono}
+use Rattle.meaning.specs.Meaning.{Entry, Kind, product, maximum, minimum, same, once, ones, multiplied, Each}
 use Rattle.meaning.specs.Merge.{turned-by, freed-by, turned-all, freed-all, joined, put, collect, nonzero}
 use Rattle.meaning.proofs.Gather.{each-map}
 use Rattle.meaning.proofs.Members.{eq→same, join, once-each, collect-each}
-use Rattle.kinds.specs.Kinds.{between, weight-fits}
 use Rattle.area.specs.Whole.{weights-of}
-
--- ---- sizes of integers
-
--- one of the two parts is 0
-near : (z : ℤ) (m : ℕ) → positive z ≤ m + negative z → negative z ≤ m + positive z → natAbs z ≤ m
-near (pos n) m p q = omega arith
-near (negsuc n) m p q = omega arith
-
-sum-size : (a b : ℤ) → natAbs (a +ℤ b) ≤ natAbs a + natAbs b
-sum-size a b = near (a +ℤ b) (natAbs a + natAbs b) (omega (ints, size-parts a, size-parts b, sum-parts a b)) (omega (ints, size-parts a, size-parts b, sum-parts a b))
-
-neg-size : (a : ℤ) → natAbs (negℤ a) ≤ natAbs a
-neg-size a = near (negℤ a) (natAbs a) (omega (ints, size-parts a, neg-parts a)) (omega (ints, size-parts a, neg-parts a))
-
-both : (a b : Bool) → T (a && b) → T a × T b
-both true b t = (tt, t)
-both false b t = absurd t
-
-pub between-size : (least greatest w : ℤ) (m : ℕ) → T (leZ (negℤ (pos m)) least) → T (leZ greatest (pos m)) → T (between least greatest w) → natAbs w ≤ m
-between-size least greatest w m l g t =
-    let p = both (leZ least w) (leZ w greatest) t in
-    let a : T (leZ least w) = p .0 in
-    let b : T (leZ w greatest) = p .1 in
-    near w m (omega (ints, neg-parts (pos m))) (omega (ints, neg-parts (pos m)))
-
-pub fits-size : (k : Kind) (w : ℤ) → T (weight-fits k w) → natAbs w ≤ 1000000000
-fits-size sum w t = between-size (negsuc 999999999) (pos 1000000000) w 1000000000 tt tt t
-fits-size product w t = between-size (pos 1) (pos 1000000000) w 1000000000 tt tt t
-fits-size count w t = between-size (pos 1) (pos 1) w 1000000000 tt tt t
-fits-size maximum w t = between-size (negsuc 999999999) (pos 1000000000) w 1000000000 tt tt t
-fits-size minimum w t = between-size (negsuc 999999999) (pos 1000000000) w 1000000000 tt tt t
 
 abbrev pub Small : ℕ → Entry → Type 0
 Small m e = natAbs (e .weight) ≤ m
@@ -63,14 +30,15 @@ module _ (k : Kind) (adds : Adds k) where
   join-size : (m d : ℕ) (x e : Entry) → Small m x → Small d e → Small (m + d) (join k x e)
   join-size m d x e p q = rw (adds (x .weight) (e .weight)) (omega (arith, sum-size (x .weight) (e .weight)))
 
-  put-size : (m d : ℕ) (xs : List Entry) (e : Entry) → Each (Small m) xs → Small d e → Each (Small (m + d)) (put k xs e)
+  pub put-size : (m d : ℕ) (xs : List Entry) (e : Entry) → Each (Small m) xs → Small d e → Each (Small (m + d)) (put k xs e)
   unfolding put
   put-size m d [] e h p = (omega arith, tt)
-  put-size m d (x ∷ xs) e h p = go (same (x .literal) (e .literal)) (put-size m d xs e (h .1) p)
-    where
-      go : (b : Bool) → Each (Small (m + d)) (put k xs e) → Each (Small (m + d)) (cond b (join k x e ∷ xs) (x ∷ put k xs e))
-      go true ih = (join-size m d x e (h .0) p, each-map (Small m) (Small (m + d)) xs (λ y q. omega arith) (h .1))
-      go false ih = let q : natAbs (x .weight) ≤ m = h .0 in (omega arith, ih)
+  put-size m d (x ∷ xs) e h p =
+      let q : natAbs (x .weight) ≤ m = h .0 in
+      elim (same (x .literal) (e .literal)) as (λ b. Each (Small (m + d)) (cond b (join k x e ∷ xs) (x ∷ put k xs e))) [
+        | true ↦ (join-size m d x e q p, each-map (Small m) (Small (m + d)) xs (λ y q. omega arith) (h .1))
+        | false ↦ (omega arith, put-size m d xs e (h .1) p)
+      ]
 
   turned-by-size : (d : ℕ) (w l : ℤ) → natAbs w ≤ d → Small d (turned-by w l)
   turned-by-size d w (pos a) h = h
@@ -96,33 +64,27 @@ freed-size d (e ∷ es) h =
     omega (arith, sum-size (freed-by (e .weight) (e .literal)) (freed-all es), freed-by-size d (e .weight) (e .literal) (h .0), freed-size d es (h .1))
 
 pub once-size : (d : ℕ) (es : List Entry) → 1 ≤ d → Each (Small d) (once (ones es))
-once-size d es l = once-each (Small d) (ones es) (go es)
-  where
-    go : (es : List Entry) → Each (Small d) (ones es)
-    go [] = tt
-    go (e ∷ es) = (omega arith, go es)
+once-size d es l = once-each (Small d) (ones es) (elim es as (λ es. Each (Small d) (ones es)) [ [] ↦ tt | _∷_ e (es → h) ↦ (omega arith, h) ])
 
 pub nonzero-weights : (es : List Entry) → Each (λ e. ¬ (e .weight ≡ pos 0)) (nonzero es)
 unfolding nonzero
 nonzero-weights [] = tt
-nonzero-weights (e ∷ es) = go (same (e .weight) (pos 0)) (eq→same (e .weight) (pos 0)) (nonzero-weights es)
-  where
-    go : (b : Bool) → (e .weight ≡ pos 0 → T b) → Each (λ e. ¬ (e .weight ≡ pos 0)) (nonzero es) → Each (λ e. ¬ (e .weight ≡ pos 0)) (cond b (nonzero es) (e ∷ nonzero es))
-    go true f ih = ih
-    go false f ih = (f, ih)
+nonzero-weights (e ∷ es) =
+    elim (same (e .weight) (pos 0)) as (λ b. (e .weight ≡ pos 0 → T b) → Each (λ e. ¬ (e .weight ≡ pos 0)) (cond b (nonzero es) (e ∷ nonzero es)))
+    [ true ↦ λ f. nonzero-weights es | false ↦ λ f. (f, nonzero-weights es) ] (eq→same (e .weight) (pos 0))
 
 -- ---- products
 
 abbrev pub Positive : Entry → Type 0
 Positive e = T (leZ (pos 1) (e .weight))
 
-product-positive : (v w : ℤ) → T (leZ (pos 1) v) → T (leZ (pos 1) w) → T (leZ (pos 1) (v *ℤ w))
+pub product-positive : (v w : ℤ) → T (leZ (pos 1) v) → T (leZ (pos 1) w) → T (leZ (pos 1) (v *ℤ w))
 product-positive v w p q = product-mono (pos 1) v (pos 1) w tt tt p q
 
 pub collect-positive : (es : List Entry) → Each Positive es → Each Positive (collect product [] es)
 collect-positive es h = collect-each Positive product (λ x e p q. product-positive (x .weight) (e .weight) p q) [] es tt h
 
-multiplied-positive : (es : List Entry) → Each Positive es → T (leZ (pos 1) (multiplied (weights-of es)))
+pub multiplied-positive : (es : List Entry) → Each Positive es → T (leZ (pos 1) (multiplied (weights-of es)))
 multiplied-positive [] h = tt
 multiplied-positive (e ∷ es) h = product-positive (e .weight) (multiplied (weights-of es)) (h .0) (multiplied-positive es (h .1))
 
@@ -148,8 +110,7 @@ abbrev pub Keeps : Kind → Type 0
 Keeps k = (m : ℕ) (v w : ℤ) → natAbs v ≤ m → natAbs w ≤ m → natAbs (joined k v w) ≤ m
 
 kept-one : (b : Bool) (m : ℕ) (v w : ℤ) → natAbs v ≤ m → natAbs w ≤ m → natAbs (cond b v w) ≤ m
-kept-one true m v w p q = p
-kept-one false m v w p q = q
+kept-one b m v w p q = elim b [ true ↦ p | false ↦ q ]
 
 pub maximum-keeps : Keeps maximum
 maximum-keeps m v w p q = kept-one (leZ v w) m w v q p

@@ -5,10 +5,10 @@ use mathlib.Core.Bool.{Bool, true, false, _||_, or-assoc, or-comm}
 use mathlib.Core.List.{List, [], _∷_}
 use Prim.Native.Nat.{ℕ, zero, suc, _*_, _<_}
 use native.Mathlib.Omega.{arith}
-use native.Mathlib.Nat.{mul-assoc, mul-comm}
 use lib.IntN.{ℤ, pos, negℤ, natAbs, _*ℤ_}
 use lib.ListN.{length}
 use Rattle.decide.specs.Below.{some-below, product-below}
+use Rattle.decide.proofs.Below.{product-front}
 use Rattle.meaning.specs.Meaning.{same, multiplied}
 use Rattle.area.specs.Whole.{weights-of}
 use Rattle.columns.specs.Columns.{paired}
@@ -30,10 +30,7 @@ some-same (suc k) p q e = ap₂ (λ a b. a || b) (some-same k p q e) (e k)
 -- two by two, in another order
 exchange : (a b x y : Bool) → ((a || b) || (x || y)) ≡ ((a || x) || (b || y))
 exchange true b x y = refl
-exchange false true true y = refl
-exchange false true false y = refl
-exchange false false true y = refl
-exchange false false false y = refl
+exchange false b x y = elim b [ true ↦ elim x [ true ↦ refl | false ↦ refl ] | false ↦ refl ]
 
 some-or : (k : ℕ) (p q : ℕ → Bool) → some-below k (λ i. p i || q i) ≡ (some-below k p || some-below k q)
 unfolding some-below
@@ -42,21 +39,18 @@ some-or (suc k) p q = ap (λ b. b || (p k || q k)) (some-or k p q) ∙ exchange 
 
 -- ---- entries in pairs
 
-suc-same : (m n : ℕ) → suc m ≡ suc n → m ≡ n
-suc-same m n e = omega arith
-
 pub paired-length : (ws ls : List ℤ) → length ws ≡ length ls → length (paired ws ls) ≡ length ls
 unfolding paired
 paired-length [] [] e = refl
 paired-length [] (l ∷ ls) e = e
 paired-length (w ∷ ws) [] e = refl
-paired-length (w ∷ ws) (l ∷ ls) e = ap suc (paired-length ws ls (suc-same (length ws) (length ls) e))
+paired-length (w ∷ ws) (l ∷ ls) e = ap suc (paired-length ws ls (omega arith))
 
 pub paired-weights : (ws ls : List ℤ) → length ws ≡ length ls → weights-of (paired ws ls) ≡ ws
 unfolding paired
 paired-weights [] ls e = refl
 paired-weights (w ∷ ws) [] e = let b : ⊥ = omega arith in absurd b
-paired-weights (w ∷ ws) (l ∷ ls) e = ap (λ x. w ∷ x) (paired-weights ws ls (suc-same (length ws) (length ls) e))
+paired-weights (w ∷ ws) (l ∷ ls) e = ap (λ x. w ∷ x) (paired-weights ws ls (omega arith))
 
 module _ (p : ℤ → Bool) where
   pub some-literal : (ws ls : List ℤ) → length ws ≡ length ls → some (λ e. p (e .literal)) (paired ws ls) ≡ some-below (length ls) (λ i. p (nth ls i))
@@ -64,15 +58,13 @@ module _ (p : ℤ → Bool) where
   some-literal [] [] e = refl
   some-literal [] (l ∷ ls) e = let b : ⊥ = omega arith in absurd b
   some-literal (w ∷ ws) [] e = refl
-  some-literal (w ∷ ws) (l ∷ ls) e =
-      ap (λ b. p l || b) (some-literal ws ls (suc-same (length ws) (length ls) e)) ∙ sym (some-first (length ls) (λ i. p (nth (l ∷ ls) i)))
+  some-literal (w ∷ ws) (l ∷ ls) e = ap (λ b. p l || b) (some-literal ws ls (omega arith)) ∙ sym (some-first (length ls) (λ i. p (nth (l ∷ ls) i)))
 
   pub some-weight : (ws ls : List ℤ) → length ws ≡ length ls → some (λ e. p (e .weight)) (paired ws ls) ≡ some-below (length ws) (λ i. p (nth ws i))
   unfolding some paired some-below
   some-weight [] ls e = refl
   some-weight (w ∷ ws) [] e = let b : ⊥ = omega arith in absurd b
-  some-weight (w ∷ ws) (l ∷ ls) e =
-      ap (λ b. p w || b) (some-weight ws ls (suc-same (length ws) (length ls) e)) ∙ sym (some-first (length ws) (λ i. p (nth (w ∷ ws) i)))
+  some-weight (w ∷ ws) (l ∷ ls) e = ap (λ b. p w || b) (some-weight ws ls (omega arith)) ∙ sym (some-first (length ws) (λ i. p (nth (w ∷ ws) i)))
 
 -- ---- both signs: of the first entry with a later one, or among the later ones
 
@@ -82,24 +74,17 @@ both-signs-paired [] [] e = refl
 both-signs-paired [] (l ∷ ls) e = let b : ⊥ = omega arith in absurd b
 both-signs-paired (w ∷ ws) [] e = refl
 both-signs-paired (w ∷ ws) (l ∷ ls) e =
-    let f = suc-same (length ws) (length ls) e in
+    let f : length ws ≡ length ls = omega arith in
     ap₂ (λ a b. a || b) (some-literal (λ x. same x (negℤ l)) ws ls f) (both-signs-paired ws ls f)
     ∙ sym (some-or (length ls) (λ j. same (nth ls j) (negℤ l)) (negated-before ls))
     ∙ some-same (length ls) (λ j. same (nth ls j) (negℤ l) || negated-before ls j) (λ j. negated-before (l ∷ ls) (suc j))
-    (λ j. sym (some-first j (λ i. same (nth (l ∷ ls) (suc j)) (negℤ (nth (l ∷ ls) i)))))
-    ∙ sym (some-first (length ls) (negated-before (l ∷ ls)))
+    (λ j. sym (some-first j (λ i. same (nth (l ∷ ls) (suc j)) (negℤ (nth (l ∷ ls) i))))) ∙ sym (some-first (length ls) (negated-before (l ∷ ls)))
 
 -- ---- the product of natural weights
-
-product-first : (k : ℕ) (f : ℕ → ℕ) → product-below (suc k) f ≡ f 0 * product-below k (λ i. f (suc i))
-unfolding product-below
-product-first zero f = mul-comm 1 (f 0)
-product-first (suc k) f = ap (λ x. x * f (suc k)) (product-first k f) ∙ mul-assoc (f 0) (product-below k (λ i. f (suc i))) (f (suc k))
 
 pub multiplied-natural : (ws : List ℤ) → ((i : ℕ) → i < length ws → nth ws i ≡ pos (natAbs (nth ws i)))
     → multiplied ws ≡ pos (product-below (length ws) (λ i. natAbs (nth ws i)))
 unfolding product-below
 multiplied-natural [] h = refl
-multiplied-natural (w ∷ ws) h =
-    ap₂ (λ x y. x *ℤ y) (h 0 (omega arith)) (multiplied-natural ws (λ i l. h (suc i) (omega arith)))
-    ∙ ap pos (sym (product-first (length ws) (λ i. natAbs (nth (w ∷ ws) i))))
+multiplied-natural (w ∷ ws) h = ap₂ (λ x y. x *ℤ y) (h 0 (omega arith)) (multiplied-natural ws (λ i l. h (suc i) (omega arith)))
+    ∙ ap pos (sym (product-front (length ws) (λ i. natAbs (nth (w ∷ ws) i))))

@@ -1,9 +1,9 @@
 -- What the six tests leave of a sentence that passes, entry by entry: its literals are of atoms and not of the head, its weights fit, an
 -- atom of a product, max or min has one sign, and the sentence is one that the book may hold.
-use mathlib.Core.Path.{_≡_, refl, sym, ap, subst}
-use mathlib.Core.Bool.{Bool, true, false, not, _||_, _&&_}
+use mathlib.Core.Path.{_≡_, sym, ap, subst}
+use mathlib.Core.Bool.{Bool, true, false, not, _&&_}
 use mathlib.Core.List.{List, [], _∷_}
-use Prim.Native.Nat.{ℕ, zero, suc, _≤_}
+use Prim.Native.Nat.{ℕ, _≤_}
 use native.Mathlib.Omega.{arith}
 use lib.IntN.{ℤ, pos, negsuc, negℤ}
 use lib.ListN.{length}
@@ -11,6 +11,7 @@ use lib.Dec.{T, eqb, ltb}
 use lib.Signed.{leZ}
 use borrow.Author.Tests.{eqb-false, ltb-false, not-false}
 use Rattle.types.specs.declared.Limits.{Limits}
+use Rattle.decide.proofs.Below.{left-false, right-false}
 use Rattle.meaning.specs.Meaning.{atom, Entry, place, product, same, mixes, multiplied, weighable, Each, OneSigned}
 use Rattle.meaning.specs.Merge.{merge}
 use Rattle.meaning.proofs.Orders.{T-true, T-false}
@@ -21,11 +22,12 @@ use Rattle.kinds.specs.Kinds.{weight-fits}
 use Rattle.kinds.proofs.Weights.{fits-weighable}
 use Rattle.book.specs.Book.{WellFormed}
 use Rattle.area.specs.Layout.{kind-of}
+use Rattle.area.proofs.KindNumbers.{product-number}
 use Rattle.area.specs.Whole.{weights-of}
 use Rattle.columns.specs.Columns.{Written, sentence-of}
 use Rattle.columns.specs.Refusals.{some, no-atom, bound-fits, both-signs, is-product}
 use Rattle.columns.specs.Indexed.{Passes}
-use Rattle.columns.proofs.Clauses.{left-false, right-false, is-atom}
+use Rattle.columns.proofs.Clauses.{none-holds, is-atom}
 
 none-of : (p : Entry → Bool) (es : List Entry) → some p es ≡ false → Each (λ e. p e ≡ false) es
 unfolding some
@@ -54,27 +56,13 @@ one-signed (e ∷ es) h =
 -- ---- a sentence that passes
 
 and-false : (a b : Bool) → (a && b) ≡ false → T a → b ≡ false
-and-false true b e t = e
-and-false false b e t = absurd t
-
-product-number : (k : ℕ) → kind-of k ≡ product → k ≡ 1
-product-number zero e = cc
-product-number (suc zero) e = refl
-product-number (suc (suc zero)) e = cc
-product-number (suc (suc (suc zero))) e = cc
-product-number (suc (suc (suc (suc k)))) e = cc
+and-false a b = elim a [ true ↦ λ e t. e | false ↦ λ e t. absurd t ]
 
 module _ (lim : Limits) (n : ℕ) (x : Written) (v : Passes lim n x) where
   few-kinds : (x .kind ≤ 4) × (x .side ≤ 1) × (length (x .entries) ≤ lim .each)
   few-kinds =
-      let a = ltb 4 (x .kind) in
-      let b = ltb 1 (x .side) in
-      let d = ltb (lim .each) (length (x .entries)) in
-      let e : (a || b) ≡ false = left-false (a || b) d (v .known) in (
-        ltb-false 4 (x .kind) (left-false a b e),
-        ltb-false 1 (x .side) (right-false a b e),
-        ltb-false (lim .each) (length (x .entries)) (right-false (a || b) d (v .known)),
-      )
+      let h = none-holds (ltb 4 (x .kind)) (ltb 1 (x .side) ∷ ltb (lim .each) (length (x .entries)) ∷ []) (v .known) in
+      (ltb-false 4 (x .kind) (h .0), ltb-false 1 (x .side) (h .1 .0), ltb-false (lim .each) (length (x .entries)) (h .1 .1 .0))
 
   pub kind-known : x .kind ≤ 4
   kind-known = few-kinds .0
@@ -92,8 +80,7 @@ module _ (lim : Limits) (n : ℕ) (x : Written) (v : Passes lim n x) where
   head-atom = is-atom n (x .head) (left-false (no-atom n (x .head)) strangers (v .atoms))
 
   pub entry-atoms : Each (λ e. (1 ≤ place e) × (place e ≤ n)) (x .entries)
-  entry-atoms =
-      each-map (λ e. no-atom n (place e) ≡ false) (λ e. (1 ≤ place e) × (place e ≤ n)) (x .entries) (λ e. is-atom n (place e))
+  entry-atoms = each-map (λ e. no-atom n (place e) ≡ false) (λ e. (1 ≤ place e) × (place e ≤ n)) (x .entries) (λ e. is-atom n (place e))
       (none-of (λ e. no-atom n (place e)) (x .entries) (right-false (no-atom n (x .head)) strangers (v .atoms)))
 
   abbrev unfit : Bool
@@ -109,8 +96,7 @@ module _ (lim : Limits) (n : ℕ) (x : Written) (v : Passes lim n x) where
   bound-within = T-true (not-false (bound-fits (x .bound)) (right-false unfit (not (bound-fits (x .bound))) (v .ranges)))
 
   pub entries-headless : Each (λ e. ¬ (place e ≡ x .head)) (x .entries)
-  entries-headless =
-      each-map (λ e. eqb (place e) (x .head) ≡ false) (λ e. ¬ (place e ≡ x .head)) (x .entries) (λ e. eqb-false (place e) (x .head))
+  entries-headless = each-map (λ e. eqb (place e) (x .head) ≡ false) (λ e. ¬ (place e ≡ x .head)) (x .entries) (λ e. eqb-false (place e) (x .head))
       (none-of (λ e. eqb (place e) (x .head)) (x .entries) (v .headless))
 
   pub entries-unmixed : T (not (mixes (kind-of (x .kind)))) → both-signs (x .entries) ≡ false
@@ -132,8 +118,7 @@ module _ (lim : Limits) (n : ℕ) (x : Written) (v : Passes lim n x) where
     atoms-high = each-map (λ e. (1 ≤ place e) × (place e ≤ n)) (λ e. place e ≤ n) (x .entries) (λ e p. p .1) entry-atoms;
     admissible = record {
       literals = each-map (λ e. (1 ≤ place e) × (place e ≤ n)) (λ e. 1 ≤ place e) (x .entries) (λ e p. p .0) entry-atoms;
-      weights =
-          each-map (λ e. T (weight-fits (kind-of (x .kind)) (e .weight))) (λ e. T (weighable (kind-of (x .kind)) (e .weight))) (x .entries)
+      weights = each-map (λ e. T (weight-fits (kind-of (x .kind)) (e .weight))) (λ e. T (weighable (kind-of (x .kind)) (e .weight))) (x .entries)
           (λ e t. fits-weighable (kind-of (x .kind)) (e .weight) t) entries-fit;
       headless = entries-headless;
       signs = λ t. one-signed (x .entries) (entries-unmixed t);

@@ -16,13 +16,13 @@ use Rattle.meaning.proofs.Members.{each-both, nonzero-each, collect-each, merge
 use Rattle.meaning.proofs.MergingLength.{members-length}
 use Rattle.meaning.proofs.MergingDistinct.{turned-all-positive, merge-distinct}
 use Rattle.kinds.specs.Kinds.{weight-fits}
-use Rattle.kinds.proofs.Weights.{fits-weighable}
+use Rattle.kinds.proofs.Weights.{fits-weighable, between-size, fits-size}
 use Rattle.area.specs.Layout.{kind-of}
 use Rattle.area.specs.Whole.{Added, Multiplied, WeightWhole, EntryWhole, weights-of, RuleWhole}
 use Rattle.columns.specs.Columns.{Written, sentence-of}
 use Rattle.columns.specs.Indexed.{Passes}
 use Rattle.columns.proofs.Passing.{entries-few, head-atom, entry-atoms, entries-fit, bound-within, entries-headless, entries-unmixed, merged-product-within, one-signed}
-use Rattle.columns.proofs.MergedSizes.{between-size, fits-size, Small, Adds, collect-size, freed-size, once-size, nonzero-weights, Positive, collect-positive, factor-size, maximum-keeps, minimum-keeps, collect-kept}
+use Rattle.columns.proofs.MergedSizes.{Small, Adds, collect-size, freed-size, once-size, nonzero-weights, Positive, collect-positive, factor-size, maximum-keeps, minimum-keeps, collect-kept}
 
 -- ---- sums and counts
 
@@ -77,11 +77,9 @@ module _ (lim : Limits) (n : ℕ) (x : Written) (v : Passes lim n x) where
   Placed a = ((1 ≤ a) × (a ≤ n)) × ¬ (a ≡ x .head)
 
   entries-whole : Each (EntryWhole n (x .head) kind (length (x .entries))) merged
-  entries-whole =
-      each-map (λ e. Placed (place e) × WeightWhole kind (length (x .entries)) e) (EntryWhole n (x .head) kind (length (x .entries))) merged
+  entries-whole = each-map (λ e. Placed (place e) × WeightWhole kind (length (x .entries)) e) (EntryWhole n (x .head) kind (length (x .entries))) merged
       (λ e p. record { atom-low = p .0 .0 .0; atom-high = p .0 .0 .1; weighs = p .1; other = p .0 .1 })
-      (each-both (λ e. Placed (place e)) (WeightWhole kind (length (x .entries))) merged
-      (merge-each Placed kind (x .entries)
+      (each-both (λ e. Placed (place e)) (WeightWhole kind (length (x .entries))) merged (merge-each Placed kind (x .entries)
       (each-both (λ e. (1 ≤ place e) × (place e ≤ n)) (λ e. ¬ (place e ≡ x .head)) (x .entries) (entry-atoms lim n x v) (entries-headless lim n x v)))
       (weights-whole kind (x .entries) (entries-fit lim n x v) (merged-product-within lim n x v)))
 

@@ -2,6 +2,7 @@
 -- sentences before it, since the counts add up to the entries.
 use mathlib.Core.Path.{_≡_, refl, sym, _∙_}
 use mathlib.Core.Bool.{Bool, true, false, not, _||_}
+use mathlib.Core.List.{[], _∷_}
 use Prim.Native.Nat.{ℕ, _+_, _<_, _≤_}
 use native.Mathlib.Omega.{arith}
 use lib.Dec.{ltb, eqb}
@@ -15,13 +16,12 @@ use Rattle.columns.specs.Refusals.{misshapen}
 use Rattle.columns.specs.Indexed.{sizes, above-limits, unequal-sizes}
 use Rattle.columns.specs.declared.Sizes.{Sizes}
 use Rattle.columns.specs.Decides.{Limited, Equal, Shaped}
-use Rattle.columns.proofs.Clauses.{left-false, right-false}
+use Rattle.columns.proofs.Clauses.{none-holds}
 
 -- ---- the test in the three parts that the code decides
 
 regroup : (a k s b c l x : Bool) → (a || k || s || b || c || l || x) ≡ (a || (k || s || b || c || l) || x)
-regroup true k s b c l x = refl
-regroup false k s b c l x = refl
+regroup a k s b c l x = elim a [ true ↦ refl | false ↦ refl ]
 
 abbrev pub limits-passed : Limits → ℕ → Columns → Bool
 limits-passed lim n c = above-limits lim n (length (c .heads)) (length (c .weights))
@@ -39,16 +39,13 @@ misshapen-is lim n c =
 
 pub limited : (lim : Limits) (n sentences entries : ℕ) → above-limits lim n sentences entries ≡ false → Limited lim n sentences entries
 limited lim n sentences entries e =
-    let b1 = eqb n 0 || ltb (lim .atoms) n in
-    let b2 = b1 || ltb (lim .sentences) sentences in
-    let e2 : b2 ≡ false = left-false b2 (ltb (lim .entries) entries) e in
-    let e1 : b1 ≡ false = left-false b1 (ltb (lim .sentences) sentences) e2 in
-    let z : n ≡ 0 → ⊥ = eqb-false n 0 (left-false (eqb n 0) (ltb (lim .atoms) n) e1) in
+    let h = none-holds (eqb n 0) (ltb (lim .atoms) n ∷ ltb (lim .sentences) sentences ∷ ltb (lim .entries) entries ∷ []) e in
+    let z : n ≡ 0 → ⊥ = eqb-false n 0 (h .0) in
     record {
       low = omega arith;
-      high = ltb-false (lim .atoms) n (right-false (eqb n 0) (ltb (lim .atoms) n) e1);
-      few-sentences = ltb-false (lim .sentences) sentences (right-false b1 (ltb (lim .sentences) sentences) e2);
-      few-entries = ltb-false (lim .entries) entries (right-false b2 (ltb (lim .entries) entries) e);
+      high = ltb-false (lim .atoms) n (h .1 .0);
+      few-sentences = ltb-false (lim .sentences) sentences (h .1 .1 .0);
+      few-entries = ltb-false (lim .entries) entries (h .1 .1 .1 .0);
     }
 
 same : (a b : ℕ) → not (eqb a b) ≡ false → a ≡ b
@@ -56,30 +53,23 @@ same a b e = eqb-true a b (not-false (eqb a b) e)
 
 pub equal : (s : Sizes) → unequal-sizes s ≡ false → Equal s
 equal s e =
-    let b0 = not (eqb (s .kinds) (s .heads)) in
-    let b1 = b0 || not (eqb (s .sides) (s .heads)) in
-    let b2 = b1 || not (eqb (s .bounds) (s .heads)) in
-    let b3 = b2 || not (eqb (s .counts) (s .heads)) in
-    let e3 : b3 ≡ false = left-false b3 (not (eqb (s .literals) (s .weights))) e in
-    let e2 : b2 ≡ false = left-false b2 (not (eqb (s .counts) (s .heads))) e3 in
-    let e1 : b1 ≡ false = left-false b1 (not (eqb (s .bounds) (s .heads))) e2 in
+    let h = none-holds (not (eqb (s .kinds) (s .heads)))
+    (not (eqb (s .sides) (s .heads)) ∷ not (eqb (s .bounds) (s .heads)) ∷ not (eqb (s .counts) (s .heads)) ∷ not (eqb (s .literals) (s .weights)) ∷ []) e in
     record {
-      kinds = same (s .kinds) (s .heads) (left-false b0 (not (eqb (s .sides) (s .heads))) e1);
-      sides = same (s .sides) (s .heads) (right-false b0 (not (eqb (s .sides) (s .heads))) e1);
-      bounds = same (s .bounds) (s .heads) (right-false b1 (not (eqb (s .bounds) (s .heads))) e2);
-      counts = same (s .counts) (s .heads) (right-false b2 (not (eqb (s .counts) (s .heads))) e3);
-      literals = same (s .literals) (s .weights) (right-false b3 (not (eqb (s .literals) (s .weights))) e);
+      kinds = same (s .kinds) (s .heads) (h .0);
+      sides = same (s .sides) (s .heads) (h .1 .0);
+      bounds = same (s .bounds) (s .heads) (h .1 .1 .0);
+      counts = same (s .counts) (s .heads) (h .1 .1 .1 .0);
+      literals = same (s .literals) (s .weights) (h .1 .1 .1 .1 .0);
     }
 
 pub shaped : (lim : Limits) (n : ℕ) (c : Columns) → misshapen lim n c ≡ false → Shaped lim n c
 shaped lim n c m =
-    let b = limits-passed lim n c || unequal-sizes (sizes c) in
-    let e : (b || not (counts-add-up c)) ≡ false = sym (misshapen-is lim n c) ∙ m in
-    let f : b ≡ false = left-false b (not (counts-add-up c)) e in
+    let h = none-holds (limits-passed lim n c) (unequal-sizes (sizes c) ∷ not (counts-add-up c) ∷ []) (sym (misshapen-is lim n c) ∙ m) in
     record {
-      within = limited lim n (length (c .heads)) (length (c .weights)) (left-false (limits-passed lim n c) (unequal-sizes (sizes c)) f);
-      equals = equal (sizes c) (right-false (limits-passed lim n c) (unequal-sizes (sizes c)) f);
-      sum = same (sum-first (c .counts) (length (c .counts))) (length (c .weights)) (right-false b (not (counts-add-up c)) e);
+      within = limited lim n (length (c .heads)) (length (c .weights)) (h .0);
+      equals = equal (sizes c) (h .1 .0);
+      sum = same (sum-first (c .counts) (length (c .counts))) (length (c .weights)) (h .1 .1 .0);
     }
 
 -- ---- sentence s, whose entries start at `from`

@@ -37,5 +37,4 @@ numbered lim n k (x ∷ xs) =
     (λ e. omega arith, (λ e. omega arith, (λ e. omega arith, (λ e. omega arith, (λ e. omega arith, (λ e. omega arith, numbered lim n (suc k) xs))))))
 
 pub refused-or-not : (lim : Limits) (words n : ℕ) (c : Columns) → Decides (load-refusals lim words n c) (load-answer lim words n c)
-refused-or-not lim words n c =
-    decides (load-refusals lim words n c) (λ e. omega arith, (λ e. omega arith, numbered lim n 1 (all-written c)))
+refused-or-not lim words n c = decides (load-refusals lim words n c) (λ e. omega arith, (λ e. omega arith, numbered lim n 1 (all-written c)))

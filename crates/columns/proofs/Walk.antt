@@ -1,20 +1,21 @@
 -- The answer of the sentences from s on: that of sentence s where its code is not 0, or else that of the sentences behind it. And the
 -- sentence that a turn of the loop lends, part by part, is sentence s of the columns.
-use mathlib.Core.Path.{_≡_, refl, sym, ap, _∙_}
+use mathlib.Core.Path.{_≡_, refl, ap, _∙_}
 use mathlib.Core.List.{List, [], _∷_}
-use Prim.Native.Nat.{ℕ, zero, suc, _+_, _-_, _<_, min}
+use Prim.Native.Nat.{ℕ, zero, suc, _+_, _-_, _<_}
 use native.Mathlib.Omega.{arith}
 use lib.IntN.{ℤ}
 use lib.ListN.{length, getD, take, drop, length-take, length-drop}
 use lib.Seq.{slice}
 use Rattle.types.specs.declared.Limits.{Limits}
 use Rattle.decide.specs.Below.{sum-first}
-use Rattle.columns.specs.Columns.{Columns, written, written-at, written-from}
+use Rattle.columns.specs.Columns.{Columns, written-at, written-from}
 use Rattle.columns.specs.Refusals.{all-refusals, first-refusal}
-use Rattle.columns.specs.Indexed.{nth, sentence-code}
+use Rattle.columns.specs.Indexed.{nth, column-code, sentence-code}
 use Rattle.columns.specs.declared.Answer.{Answer}
 use Rattle.columns.specs.Decides.{answer}
 use Rattle.columns.proofs.Codes.{here, later}
+use Rattle.columns.proofs.Written.{column-code-is}
 
 -- of the sentences from s on, the first of which has number k
 abbrev behind : Limits → ℕ → Columns → ℕ → ℕ → ℕ → Answer
@@ -47,8 +48,7 @@ module _ (lim : Limits) (n : ℕ) (c : Columns) (s : ℕ) where
     from-here e = one-less ∙ step-here (length (c .heads) - (s + 1)) e
 
     pub from-later : sentence-code lim n (written-at c s) ≡ 0 → answer-from lim n c s ≡ answer-from lim n c (s + 1)
-    from-later e =
-        one-less ∙ step-later (length (c .heads) - (s + 1)) e
+    from-later e = one-less ∙ step-later (length (c .heads) - (s + 1)) e
         ∙ same-place lim n c (suc (s + 1)) (s + 1 + 1) (suc s) (s + 1) (length (c .heads) - (s + 1)) (length (c .heads) - (s + 1)) (omega arith) (omega arith) refl
 
   pub from-none : s ≡ length (c .heads) → answer-from lim n c s ≡ answer 0 0
@@ -64,23 +64,17 @@ part-is (suc f) zero (suc t) [] e = refl
 part-is (suc f) (suc m) (suc t) [] e = refl
 part-is (suc f) m (suc t) (x ∷ xs) e = part-is f m t xs (omega arith)
 
-pub parts-alike : (f m : ℕ) (ws ls : List ℤ) → length ls ≡ length ws → length (take m (drop f ws)) ≡ length (take m (drop f ls))
-parts-alike f m ws ls e =
-    length-take m (drop f ws) ∙ ap {A = ℕ} (λ k. min m k) (length-drop f ws ∙ ap {A = ℕ} (λ k. k - f) (sym e) ∙ sym (length-drop f ls)) ∙ sym (length-take m (drop f ls))
+parts-alike : (f m : ℕ) (ws ls : List ℤ) → length ls ≡ length ws → length (take m (drop f ws)) ≡ length (take m (drop f ls))
+parts-alike f m ws ls e = simp (length-take, length-drop, e)
 
-module _ (lim : Limits) (n : ℕ) (c : Columns) (s : ℕ) (z : ℤ) (f m : ℕ) where
-  pub same-sentence : z ≡ nth (c .bounds) s → f ≡ sum-first (c .counts) s → m ≡ getD (c .counts) s 0
-      → sentence-code lim n (written (getD (c .heads) s 0) (getD (c .kinds) s 0) (getD (c .sides) s 0) z (take m (drop f (c .weights))) (take m (drop f (c .literals))))
-      ≡ sentence-code lim n (written-at c s)
-  same-sentence p q r =
-      let t = sum-first (c .counts) s + getD (c .counts) s 0 in
-      ap {A = ℤ} (λ y. code y (take m (drop f (c .weights))) (take m (drop f (c .literals)))) p
-      ∙ ap {A = List ℤ} (λ ws. code (nth (c .bounds) s) ws (take m (drop f (c .literals)))) (part (c .weights) q r)
-      ∙ ap {A = List ℤ} (λ ls. code (nth (c .bounds) s) (slice (sum-first (c .counts) s) t (c .weights)) ls) (part (c .literals) q r)
-    where
-      code : ℤ → List ℤ → List ℤ → ℕ
-      code y ws ls = sentence-code lim n (written (getD (c .heads) s 0) (getD (c .kinds) s 0) (getD (c .sides) s 0) y ws ls)
-
-      part : (column : List ℤ) → f ≡ sum-first (c .counts) s → m ≡ getD (c .counts) s 0
-          → take m (drop f column) ≡ slice (sum-first (c .counts) s) (sum-first (c .counts) s + getD (c .counts) s 0) column
-      part column q r = part-is f m (sum-first (c .counts) s + getD (c .counts) s 0) column (omega arith) ∙ ap {A = ℕ} (λ k. slice k (sum-first (c .counts) s + getD (c .counts) s 0) column) q
+-- the code by the parts that a turn of the loop lends
+pub same-sentence : (lim : Limits) (n : ℕ) (c : Columns) (s : ℕ) (z : ℤ) (f m : ℕ) → z ≡ nth (c .bounds) s → f ≡ sum-first (c .counts) s → m ≡ getD (c .counts) s 0
+    → length (c .literals) ≡ length (c .weights)
+    → column-code lim n (getD (c .heads) s 0) (getD (c .kinds) s 0) (getD (c .sides) s 0) z (take m (drop f (c .weights))) (take m (drop f (c .literals)))
+    ≡ sentence-code lim n (written-at c s)
+same-sentence lim n c s z f m p q r e =
+    column-code-is lim n (getD (c .heads) s 0) (getD (c .kinds) s 0) (getD (c .sides) s 0) z (take m (drop f (c .weights))) (take m (drop f (c .literals))) (parts-alike f m (c .weights) (c .literals) e)
+    ∙ rw (p, part (c .weights), part (c .literals))
+  where
+    part : (column : List ℤ) → take m (drop f column) ≡ slice (sum-first (c .counts) s) (sum-first (c .counts) s + getD (c .counts) s 0) column
+    part column = rw (q, r) (part-is (sum-first (c .counts) s) (getD (c .counts) s 0) (sum-first (c .counts) s + getD (c .counts) s 0) column refl)

@@ -1,6 +1,6 @@
 -- The tests of the refusals over the columns themselves, from entry 0 up, as the loops take them; and what a sentence is refused for.
 use mathlib.Core.Path.{_≡_}
-use mathlib.Core.Bool.{Bool, false, not, _||_}
+use mathlib.Core.Bool.{Bool, false, not, cond, _||_, _&&_}
 use mathlib.Core.List.{List}
 use Prim.Native.Nat.{ℕ}
 use lib.IntN.{ℤ, pos, negℤ, natAbs}
@@ -9,11 +9,11 @@ use lib.Dec.{eqb, ltb}
 use Rattle.types.specs.declared.Limits.{Limits}
 use Rattle.types.specs.Limits.{bound-limit}
 use Rattle.decide.specs.Below.{some-below, product-below}
-use Rattle.meaning.specs.Meaning.{atom, same}
+use Rattle.meaning.specs.Meaning.{atom, same, mixes}
 use Rattle.kinds.specs.Kinds.{weight-fits}
 use Rattle.area.specs.Layout.{kind-of}
 use Rattle.columns.specs.Columns.{Columns, Written}
-use Rattle.columns.specs.Refusals.{unknown, no-atom, strange, out-of-range, own-head, mixed, too-great, sentence-refusals, first-refusal}
+use Rattle.columns.specs.Refusals.{unknown, no-atom, strange, bound-fits, out-of-range, own-head, mixed, is-product, too-great}
 use Rattle.columns.specs.declared.Sizes.{Sizes}
 
 abbrev pub nth : List ℤ → ℕ → ℤ
@@ -66,9 +66,20 @@ negated literals = some-below (length literals) (negated-before literals)
 abbrev pub product-above : List ℤ → Bool
 product-above weights = ltb bound-limit (product-below (length weights) (λ i. natAbs (nth weights i)))
 
--- the first of 3 to 8 that a sentence is refused for, or 0
+-- the first of 3 to 8 whose test holds, or 0
+abbrev pub first-code : Bool → Bool → Bool → Bool → Bool → Bool → ℕ
+first-code a b c d e f = cond a 3 (cond b 4 (cond c 5 (cond d 6 (cond e 7 (cond f 8 0)))))
+
+-- of a sentence
 abbrev pub sentence-code : Limits → ℕ → Written → ℕ
-sentence-code lim n x = first-refusal (sentence-refusals lim n 0 x) .code
+sentence-code lim n x = first-code (unknown lim x) (strange n x) (out-of-range x) (own-head x) (mixed x) (too-great x)
+
+-- of a sentence's columns
+abbrev pub column-code : Limits → (n head kind side : ℕ) → ℤ → List ℤ → List ℤ → ℕ
+column-code lim n head kind side bound weights literals =
+    first-code (unknown-shape (lim .each) kind side (length literals)) (no-atom n head || no-literal n literals)
+    (unfit-weights kind weights || not (bound-fits bound)) (head-inside head literals) (not (mixes (kind-of kind)) && negated literals)
+    (is-product kind && product-above weights)
 
 -- none of 3 to 8 applies to the sentence
 pub record Passes (lim : Limits) (n : ℕ) (x : Written) : Type 0 where

@@ -73,9 +73,7 @@ module _ (ls : List ℤ) (i : ℕ) (met : List ℕ) (size : length met ≡ 4097)
   met-opposite e =
       let p : 0 < getD met (atom (nth ls i)) 0 = ⊎-elim {A = sign (nth ls i) ≡ 0} {B = sign (nth ls i) ≡ 1} (λ q. omega arith) (λ q. omega arith) (sign-is (nth ls i)) in
       let o = s .back (atom (nth ls i)) high p in
-      some-here (o .0) i (λ k. same (nth ls i) (negℤ (nth ls k))) (o .1)
-      (opposite-true (nth ls (o .0)) (nth ls i) (o .2)
-      (let f = s .forth (o .0) (o .1) in
+      some-here (o .0) i (λ k. same (nth ls i) (negℤ (nth ls k))) (o .1) (opposite-true (nth ls (o .0)) (nth ls i) (o .2) (let f = s .forth (o .0) (o .1) in
       let g : getD met (atom (nth ls (o .0))) 0 ≡ getD met (atom (nth ls i)) 0 = ap {A = ℕ} (λ b. getD met b 0) (o .2) in
       ⊎-elim {A = sign (nth ls i) ≡ 0} {B = sign (nth ls i) ≡ 1} (λ q. omega arith) (λ q. omega arith) (sign-is (nth ls i))))
 
@@ -91,9 +89,7 @@ module _ (ls : List ℤ) (i : ℕ) (met : List ℕ) (size : length met ≡ 4097)
         (sign-is (nth ls i))
 
     pub none-opposite : negated-before ls i ≡ false
-    none-opposite =
-        none-of i (λ k. same (nth ls i) (negℤ (nth ls k))) (λ k l.
-        opposite-false (nth ls k) (nth ls i) (low k (omega arith)) (λ e m.
+    none-opposite = none-of i (λ k. same (nth ls i) (negℤ (nth ls k))) (λ k l. opposite-false (nth ls k) (nth ls i) (low k (omega arith)) (λ e m.
         let q = same-sign k l e in
         ⊎-elim {A = sign (nth ls i) ≡ 0} {B = sign (nth ls i) ≡ 1} (λ r. omega arith) (λ r. omega arith) (sign-is (nth ls i))))
 
@@ -101,8 +97,7 @@ module _ (ls : List ℤ) (i : ℕ) (met : List ℕ) (size : length met ≡ 4097)
     here = getD-set-same met (atom (nth ls i)) (1 + sign (nth ls i)) 0 (omega arith)
 
     old : (k : ℕ) → k < i → getD (set met (atom (nth ls i)) (1 + sign (nth ls i))) (atom (nth ls k)) 0 ≡ 1 + sign (nth ls k)
-    old k l =
-        same-or (atom (nth ls k)) (atom (nth ls i))
+    old k l = same-or (atom (nth ls k)) (atom (nth ls i))
         (λ e. ap {A = ℕ} (λ b. getD (set met (atom (nth ls i)) (1 + sign (nth ls i))) b 0) e ∙ here ∙ ap (λ x. 1 + x) (sym (same-sign k l e)))
         (λ d. getD-set-other met (atom (nth ls i)) (atom (nth ls k)) (1 + sign (nth ls i)) 0 d ∙ s .forth k l)
 
@@ -132,7 +127,5 @@ module _ (ls : List ℤ) (i : ℕ) (met : List ℕ) (size : length met ≡ 4097)
   step-none d = none-opposite ls i met size s low high (λ q. d (held ∙ q ∙ sym marks))
 
   pub step-met : (getD met a 0 ≡ 3 - m → ⊥) → Met ls (i + 1) (set met a m)
-  step-met d =
-      subst (λ (x : ℕ). Met ls (i + 1) (set met x m)) (sym is-atom)
-      (subst (λ (y : ℕ). Met ls (i + 1) (set met (atom (nth ls i)) y)) (sym is-mark)
+  step-met d = subst (λ (x : ℕ). Met ls (i + 1) (set met x m)) (sym is-atom) (subst (λ (y : ℕ). Met ls (i + 1) (set met (atom (nth ls i)) y)) (sym is-mark)
       (one-met ls i met size s low high (λ q. d (held ∙ q ∙ sym marks))))

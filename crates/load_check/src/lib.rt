@@ -5,15 +5,15 @@ use columns::Sizes;
 use types::Limits;
 use types::Sentence;
 ghost use mathlib.Core.Path.{_≡_};
-ghost use mathlib.Core.Bool.{false};
 ghost use Prim.Native.Nat.{_≤_};
 ghost use lib.Dec.{eqb};
 ghost use lib.ListN.{length};
 ghost use Rattle.types.specs.Limits.{widest, Fitting};
 ghost use Rattle.decide.specs.Below.{sum-first};
-ghost use Rattle.columns.specs.Columns.{columns, written, all-written};
-ghost use Rattle.columns.specs.Refusals.{misshapen, all-refusals, first-refusal, load-answer};
-ghost use Rattle.columns.specs.Indexed.{above-limits, unequal-sizes, unknown-shape, sentence-code};
+ghost use Rattle.columns.specs.Columns.{columns, all-written};
+ghost use Rattle.columns.specs.Refusals.{all-refusals, first-refusal, load-answer};
+ghost use Rattle.columns.specs.Indexed.{above-limits, unequal-sizes, unknown-shape, column-code};
+ghost use Rattle.columns.specs.Decides.{Shaped};
 
 fn past_limits(lim: Limits, atoms: u64, sentences: u64, entries: u64) -> bool
     ensures { λ r. ⌜ r ≡ above-limits lim atoms sentences entries ⌝ }
@@ -88,8 +88,8 @@ fn sentence_refusal(
     weights: &[i64],
     literals: &[i64],
 ) -> u64
-    requires { ⌜ (n ≤ widest .atoms) × (length (now weights) ≡ length (now literals)) ⌝ }
-    ensures { λ r. ⌜ r ≡ sentence-code lim n (written head kind side bound (now (weights .entry)) (now (literals .entry))) ⌝ }
+    requires { ⌜ n ≤ widest .atoms ⌝ }
+    ensures { λ r. ⌜ r ≡ column-code lim n head kind side bound (now (weights .entry)) (now (literals .entry)) ⌝ }
 {
     if unknown(lim.each, kind, side, literals.len() as u64) {
         return 3;
@@ -125,7 +125,7 @@ fn first_refused(
     weights: &[i64],
     literals: &[i64],
 ) -> Answer
-    requires { ⌜ Fitting lim × (misshapen lim n (columns (now heads) (now kinds) (now sides) (now bounds) (now counts) (now weights) (now literals)) ≡ false) ⌝ }
+    requires { ⌜ Fitting lim × Shaped lim n (columns (now heads) (now kinds) (now sides) (now bounds) (now counts) (now weights) (now literals)) ⌝ }
     ensures { λ r. ⌜ r ≡ first-refusal (all-refusals lim n 1 (all-written (columns (now (heads .entry)) (now (kinds .entry)) (now (sides .entry)) (now (bounds .entry)) (now (counts .entry)) (now (weights .entry)) (now (literals .entry))))) ⌝ }
 {
     let mut s = 0;

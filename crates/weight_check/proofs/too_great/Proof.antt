@@ -11,11 +11,11 @@ use borrow.Author.Tests.{lt-ltb, le-ltb}
 use lib.ListN.{length}
 use lib.IntN.{ℤ, natAbs}
 use Rattle.decide.specs.Below.{product-below}
-use Rattle.decide.proofs.Below.{product-none, product-step, none-has}
+use Rattle.decide.proofs.Below.{product-none, product-step, product-grows, none-has}
 use Rattle.meaning.specs.Meaning.{product}
 use Rattle.kinds.specs.Kinds.{weight-fits}
 use Rattle.columns.specs.Indexed.{nth, unfit-weights}
-use Rattle.columns.proofs.Clauses.{of-element, product-weight, grows}
+use Rattle.columns.proofs.Clauses.{of-element, product-weight}
 use Rattle.weight_check.proofs.too_great.Statement.{statement}
 use Rattle.weight_check.proofs.too_great.Tie as tie
 
@@ -44,7 +44,7 @@ known c =
     record {
       positive = omega (arith, l);
       next = ap₂ {A = ℕ} {B = ℕ} (λ a b. a * b) (c .before .before .before .loop .inv .1) e ∙ sym (product-step i (λ k. natAbs (nth ws k)));
-      grown = grows (λ k. natAbs (nth ws k)) (i + 1) (length ws) (omega arith) (low ws (c .before .before .before .before .pre));
+      grown = product-grows (λ k. natAbs (nth ws k)) (i + 1) (length ws) (omega arith) (low ws (c .before .before .before .before .pre));
     }
 
 loop-holds : tie.Need-loop-holds Inv-loop μ-loop

@@ -10,7 +10,7 @@ use Rattle.decide.proofs.Below.{some-none, some-more, some-here}
 use Rattle.kinds.specs.Kinds.{weight-fits}
 use Rattle.area.specs.Layout.{kind-of}
 use Rattle.columns.specs.Indexed.{nth}
-use Rattle.columns.proofs.Clauses.{told-between}
+use Rattle.weight_check.proofs.Casts.{told-between}
 use Rattle.weight_check.proofs.unfit.Statement.{statement}
 use Rattle.weight_check.proofs.unfit.Tie as tie
 
