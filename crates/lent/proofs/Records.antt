@@ -14,7 +14,7 @@ use Rattle.types.specs.Limits.{base}
 use Rattle.columns.specs.Columns.{Columns}
 use Rattle.columns.specs.Refusals.{misshapen}
 use Rattle.columns.specs.Indexed.{sizes, unequal-sizes}
-use Rattle.columns.proofs.Clauses.{or-left, or-right}
+use Rattle.decide.proofs.Below.{or-left, or-right}
 use Rattle.columns.proofs.Shapes.{limits-passed, counts-add-up, misshapen-is}
 use Rattle.columns.proofs.Answers.{answer-1}
 use Rattle.load.specs.Load.{Loads}

@@ -16,7 +16,7 @@ use Rattle.columns.specs.Columns.{Written, sentences-in}
 use Rattle.columns.specs.Refusals.{load-answer}
 use Rattle.columns.proofs.Accepted.{each-accepted}
 use Rattle.columns.proofs.Passing.{well-formed, entries-few, entries-fit}
-use Rattle.columns.proofs.MergedSizes.{fits-size}
+use Rattle.kinds.proofs.Weights.{fits-size}
 use Rattle.opb_text.specs.Text.{Constraint, rows-from, columns-of}
 use Rattle.opb_text.specs.Text as text
 use Rattle.opb_text.proofs.Columns.{same-rows}
