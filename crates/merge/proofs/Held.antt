@@ -7,8 +7,8 @@ use native.Mathlib.Omega.{arith}
 use lib.ListN.{length, getD, take, set, length-set}
 use lib.Seq.{take-set-le, getD-set-same, getD-set-other}
 use Rattle.meaning.specs.Meaning.{Entry}
-use Rattle.area.specs.Layout.{word, entries-of}
-use Rattle.merge.specs.Passes.{entry-of, first-entries}
+use Rattle.area.specs.Layout.{word, entries-of, entry-of}
+use Rattle.merge.specs.Passes.{first-entries}
 
 -- the first pair, and what is behind it
 
@@ -53,8 +53,7 @@ pub entries-next : (w : List ℕ) (n : ℕ) → 2 * n + 1 < length w → first-e
 entries-next [] n h = let b : ⊥ = omega arith in absurd b
 entries-next (x ∷ []) n h = let b : ⊥ = omega arith in absurd b
 entries-next (x ∷ l ∷ w) zero h = first-pair x l w 0 ∙ ap (λ r. entry-of x l ∷ r) (entries-none w) ∙ sym (ap (λ r. r ++ (entry-of x l ∷ [])) (entries-none (x ∷ l ∷ w)))
-entries-next (x ∷ l ∷ w) (suc n) h =
-    first-pair x l w (suc n) ∙ ap (λ r. entry-of x l ∷ r) (entries-next w n (omega arith))
+entries-next (x ∷ l ∷ w) (suc n) h = first-pair x l w (suc n) ∙ ap (λ r. entry-of x l ∷ r) (entries-next w n (omega arith))
     ∙ ap (λ r. entry-of x l ∷ (first-entries w n ++ (r ∷ []))) (sym (entry-behind x l w n))
     ∙ ap (λ r. r ++ (entry-of (word (x ∷ l ∷ w) (2 * suc n)) (word (x ∷ l ∷ w) (2 * suc n + 1)) ∷ [])) (sym (first-pair x l w n))
 
@@ -64,8 +63,7 @@ entries-set w zero i z g h = let b : ⊥ = omega arith in absurd b
 entries-set [] (suc n) i z g h = let b : ⊥ = omega arith in absurd b
 entries-set (x ∷ []) (suc n) i z g h = let b : ⊥ = omega arith in absurd b
 entries-set (x ∷ l ∷ w) (suc n) zero z g h = first-pair z l w n ∙ sym (ap (λ r. set r 0 (entry-of z l)) (first-pair x l w n))
-entries-set (x ∷ l ∷ w) (suc n) (suc i) z g h =
-    ap (λ v. first-entries v (suc n)) (set-behind x l w i z) ∙ first-pair x l (set w (2 * i) z) n
+entries-set (x ∷ l ∷ w) (suc n) (suc i) z g h = ap (λ v. first-entries v (suc n)) (set-behind x l w i z) ∙ first-pair x l (set w (2 * i) z) n
     ∙ ap (λ r. entry-of x l ∷ r) (entries-set w n i z (omega arith) (omega arith))
     ∙ ap (λ m. entry-of x l ∷ set (first-entries w n) i (entry-of z m)) (sym (literal-behind x l w i))
     ∙ sym (ap (λ r. set r (suc i) (entry-of z (word (x ∷ l ∷ w) (2 * suc i + 1)))) (first-pair x l w n))

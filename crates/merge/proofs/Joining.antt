@@ -2,7 +2,6 @@
 use mathlib.Core.Path.{_≡_, refl, sym, ap, _∙_}
 use mathlib.Core.Bool.{true, cond}
 use Prim.Native.Nat.{ℕ, _+_, _-_, _*_, _≤_, _<_}
-use native.Mathlib.Omega.{arith}
 use lib.IntN.{ℤ, pos, natAbs, _+ℤ_}
 use lib.Signed.{leZ}
 use lib.Dec.{T, leb→le}
@@ -12,17 +11,14 @@ use Rattle.numbers.proofs.Integers.{ints, size-parts}
 use Rattle.numbers.proofs.Words.{unbias-parts, unbias-sum, unbias-natural, unbias-product, unbias-leb}
 use Rattle.meaning.specs.Meaning.{Kind, sum, product, count, maximum, minimum, mixes}
 use Rattle.meaning.specs.Merge.{joined}
+use Rattle.meaning.proofs.Orders.{T-true}
 use Rattle.area.specs.Layout.{kind-of}
 use Rattle.merge.specs.Passes.{Joinable}
 
 -- ---- sums and counts
 
-small : (k : Kind) (v w : ℤ) → mixes k ≡ true → Joinable k v w → (natAbs v ≤ 4096000000000) × (natAbs w ≤ 1000000000)
-small sum v w m j = j
-small product v w m j = let z : _≡_ {A = ℕ} 0 1 = cc in let b : ⊥ = omega arith in absurd b
-small count v w m j = j
-small maximum v w m j = let z : _≡_ {A = ℕ} 0 1 = cc in let b : ⊥ = omega arith in absurd b
-small minimum v w m j = let z : _≡_ {A = ℕ} 0 1 = cc in let b : ⊥ = omega arith in absurd b
+small : (k : Kind) (v w : ℤ) → T (mixes k) → Joinable k v w → (natAbs v ≤ 4096000000000) × (natAbs w ≤ 1000000000)
+small k v w = elim k [ sum ↦ λ m j. j | product ↦ λ m j. absurd m | count ↦ λ m j. j | maximum ↦ λ m j. absurd m | minimum ↦ λ m j. absurd m ]
 
 pub record Sum (x y : ℕ) : Type 0 where
   pub low : half ≤ x + y
@@ -30,22 +26,18 @@ pub record Sum (x y : ℕ) : Type 0 where
 
 pub sum-fits : (kind x y : ℕ) → mixes (kind-of kind) ≡ true → Joinable (kind-of kind) (unbias x) (unbias y) → Sum x y
 sum-fits kind x y m j =
-    let s = small (kind-of kind) (unbias x) (unbias y) m j in
+    let s = small (kind-of kind) (unbias x) (unbias y) (T-true m) j in
     let p = s .0 in let q = s .1 in
     record {
       low = omega (ints, unbias-parts x, unbias-parts y, size-parts (unbias x), size-parts (unbias y));
       high = omega (ints, unbias-parts x, unbias-parts y, size-parts (unbias x), size-parts (unbias y));
     }
 
-joined-sum : (k : Kind) (v w : ℤ) → mixes k ≡ true → joined k v w ≡ v +ℤ w
-joined-sum sum v w m = refl
-joined-sum product v w m = cc
-joined-sum count v w m = refl
-joined-sum maximum v w m = cc
-joined-sum minimum v w m = cc
+pub joined-sum : (k : Kind) (v w : ℤ) → T (mixes k) → joined k v w ≡ v +ℤ w
+joined-sum k v w = elim k [ sum ↦ λ m. refl | product ↦ absurd | count ↦ λ m. refl | maximum ↦ absurd | minimum ↦ absurd ]
 
 pub sum-joins : (kind x y : ℕ) → mixes (kind-of kind) ≡ true → Joinable (kind-of kind) (unbias x) (unbias y) → unbias (x + y - half) ≡ joined (kind-of kind) (unbias x) (unbias y)
-sum-joins kind x y m j = unbias-sum x y (sum-fits kind x y m j .low) ∙ sym (joined-sum (kind-of kind) (unbias x) (unbias y) m)
+sum-joins kind x y m j = unbias-sum x y (sum-fits kind x y m j .low) ∙ sym (joined-sum (kind-of kind) (unbias x) (unbias y) (T-true m))
 
 -- ---- products
 

@@ -19,22 +19,13 @@ use Rattle.merge.specs.Passes.{first-entries, Literals, Collected, Sifte
 use Rattle.merge.proofs.Taking.{paired-length}
 
 kept-mixed : (k : Kind) (es : List Entry) → mixes k ≡ true → kept k es ≡ nonzero es
-kept-mixed sum es e = refl
-kept-mixed product es e = cc
-kept-mixed count es e = refl
-kept-mixed maximum es e = cc
-kept-mixed minimum es e = cc
+kept-mixed k es = elim k [ sum ↦ λ h. refl | product ↦ λ h. cc | count ↦ λ h. refl | maximum ↦ λ h. cc | minimum ↦ λ h. cc ]
 
 kept-plain : (k : Kind) (es : List Entry) → mixes k ≡ false → kept k es ≡ es
-kept-plain sum es e = cc
-kept-plain product es e = refl
-kept-plain count es e = cc
-kept-plain maximum es e = refl
-kept-plain minimum es e = refl
+kept-plain k es = elim k [ sum ↦ λ h. cc | product ↦ λ h. refl | count ↦ λ h. cc | maximum ↦ λ h. refl | minimum ↦ λ h. refl ]
 
 unmixed : (b : Bool) → b ≡ true → T (not b) → ⊥
-unmixed true e t = t
-unmixed false e t = let z : _≡_ {A = ℕ} 0 1 = cc in omega arith
+unmixed b e = T-false {b = not b} (rw e)
 
 -- what wiping leaves of the first n entries
 wiped-entries : (before part : List ℕ) (n : ℕ) → Wiped before part (2 * n) → first-entries part n ≡ first-entries before n

@@ -1,8 +1,8 @@
 -- The merge of one entry more: the members, the turned entries, the constant, the collected entries and those of weight not 0 each take
 -- it at their end. A count leaves an entry out if its literal was mentioned before.
 use mathlib.Core.Path.{_≡_, refl, sym, ap, _∙_}
-use mathlib.Core.Bool.{Bool, true, false, not, cond, _||_}
-use mathlib.Core.List.{List, [], _∷_, _++_}
+use mathlib.Core.Bool.{Bool, true, false, not, cond, _||_, or-assoc, or-comm}
+use mathlib.Core.List.{List, [], _∷_, _++_, append-nil}
 use lib.IntN.{ℤ, pos, _+ℤ_, +ℤ-assoc, +ℤ-comm}
 use lib.Signed.{leZ}
 use lib.Dec.{T}
@@ -27,52 +27,30 @@ turned-all-next [] e = refl
 turned-all-next (x ∷ es) e = ap (λ r. turned-by (x .weight) (x .literal) ∷ r) (turned-all-next es e)
 
 pub turned-next : (k : Kind) (es : List Entry) (e : Entry) → turned k (es ++ (e ∷ [])) ≡ turned k es ++ (turn k e ∷ [])
-turned-next sum es e = turned-all-next es e
-turned-next product es e = refl
-turned-next count es e = turned-all-next es e
-turned-next maximum es e = refl
-turned-next minimum es e = refl
+turned-next k es e = elim k [ sum ↦ turned-all-next es e | product ↦ refl | count ↦ turned-all-next es e | maximum ↦ refl | minimum ↦ refl ]
 
 freed-all-next : (es : List Entry) (e : Entry) → freed-all (es ++ (e ∷ [])) ≡ freed-all es +ℤ freed-by (e .weight) (e .literal)
 unfolding freed-all
 freed-all-next [] e = +ℤ-comm (freed-by (e .weight) (e .literal)) (pos 0)
-freed-all-next (x ∷ es) e =
-    ap (λ r. freed-by (x .weight) (x .literal) +ℤ r) (freed-all-next es e)
+freed-all-next (x ∷ es) e = ap (λ r. freed-by (x .weight) (x .literal) +ℤ r) (freed-all-next es e)
     ∙ sym (+ℤ-assoc (freed-by (x .weight) (x .literal)) (freed-all es) (freed-by (e .weight) (e .literal)))
 
 pub constant-next : (k : Kind) (es : List Entry) (e : Entry) → constant k (es ++ (e ∷ [])) ≡ constant k es +ℤ freed k e
-constant-next sum es e = freed-all-next es e
-constant-next product es e = refl
-constant-next count es e = freed-all-next es e
-constant-next maximum es e = refl
-constant-next minimum es e = refl
+constant-next k es e = elim k [ sum ↦ freed-all-next es e | product ↦ refl | count ↦ freed-all-next es e | maximum ↦ refl | minimum ↦ refl ]
 
 -- ---- members
 
 pub mentioned-next : (l : ℤ) (es : List Entry) (e : Entry) → mentioned l (es ++ (e ∷ [])) ≡ (mentioned l es || same (e .literal) l)
 unfolding some
-mentioned-next l [] e = go (same (e .literal) l)
-  where
-    go : (b : Bool) → (b || false) ≡ b
-    go true = refl
-    go false = refl
-mentioned-next l (x ∷ es) e = ap (λ b. same (x .literal) l || b) (mentioned-next l es e) ∙ go (same (x .literal) l)
-  where
-    go : (b : Bool) → (b || (mentioned l es || same (e .literal) l)) ≡ ((b || mentioned l es) || same (e .literal) l)
-    go true = refl
-    go false = refl
+mentioned-next l [] e = or-comm (same (e .literal) l) false
+mentioned-next l (x ∷ es) e = ap (λ b. same (x .literal) l || b) (mentioned-next l es e) ∙ sym (or-assoc (same (x .literal) l) (mentioned l es) (same (e .literal) l))
 
 without-next : (l : ℤ) (es : List Entry) (e : Entry) → without l (es ++ (e ∷ [])) ≡ without l es ++ cond (same l (e .literal)) [] (e ∷ [])
 without-next l [] e = refl
-without-next l (x ∷ es) e = ap (λ r. cond (same l (x .literal)) r (x ∷ r)) (without-next l es e) ∙ go (same l (x .literal))
-  where
-    go : (b : Bool) → cond b (without l es ++ cond (same l (e .literal)) [] (e ∷ [])) (x ∷ (without l es ++ cond (same l (e .literal)) [] (e ∷ []))) ≡ cond b (without l es) (x ∷ without l es) ++ cond (same l (e .literal)) [] (e ∷ [])
-    go true = refl
-    go false = refl
-
-append-none : (xs : List Entry) → xs ++ [] ≡ xs
-append-none [] = refl
-append-none (x ∷ xs) = ap (λ r. x ∷ r) (append-none xs)
+without-next l (x ∷ es) e =
+    let last = cond (same l (e .literal)) [] (e ∷ []) in
+    ap (λ r. cond (same l (x .literal)) r (x ∷ r)) (without-next l es e)
+    ∙ (elim (same l (x .literal)) as (λ b. cond b (without l es ++ last) (x ∷ (without l es ++ last)) ≡ cond b (without l es) (x ∷ without l es) ++ last) [ true ↦ refl | false ↦ refl ])
 
 once-next : (es : List Entry) (e : Entry) → once (es ++ (e ∷ [])) ≡ cond (mentioned (e .literal) es) (once es) (once es ++ (e ∷ []))
 unfolding some
@@ -85,7 +63,7 @@ once-next (x ∷ es) e =
         → x ∷ without (x .literal) (cond b (once es) (once es ++ (e ∷ []))) ≡ cond (s || b) (x ∷ without (x .literal) (once es)) (x ∷ (without (x .literal) (once es) ++ (e ∷ [])))
     go true true w = refl
     go true false w = refl
-    go false true w = ap (λ r. x ∷ r) (w ∙ append-none (without (x .literal) (once es)))
+    go false true w = ap (λ r. x ∷ r) (w ∙ append-nil (without (x .literal) (once es)))
     go false false w = ap (λ r. x ∷ r) w
 
 ones-next : (es : List Entry) (e : Entry) → ones (es ++ (e ∷ [])) ≡ ones es ++ (record { weight = pos 1; literal = e .literal } ∷ [])
@@ -108,11 +86,7 @@ members-next count es e t =
     let one : Entry = record { weight = pos 1; literal = e .literal } in
     ap once (ones-next es e) ∙ once-next (ones es) one ∙ ap (λ b. cond b (once (ones es)) (once (ones es) ++ (one ∷ []))) (mentioned-ones (e .literal) es)
     ∙ ap (λ w. cond (mentioned (e .literal) es) (once (ones es)) (once (ones es) ++ (record { weight = w; literal = e .literal } ∷ []))) (sym (one-weight (e .weight) t))
-    ∙ go (mentioned (e .literal) es)
-  where
-    go : (b : Bool) → cond b (once (ones es)) (once (ones es) ++ (e ∷ [])) ≡ cond (not b) (once (ones es) ++ (e ∷ [])) (once (ones es))
-    go true = refl
-    go false = refl
+    ∙ (elim (mentioned (e .literal) es) as (λ b. cond b (once (ones es)) (once (ones es) ++ (e ∷ [])) ≡ cond (not b) (once (ones es) ++ (e ∷ [])) (once (ones es))) [ true ↦ refl | false ↦ refl ])
 members-next maximum es e t = refl
 members-next minimum es e t = refl
 
@@ -125,7 +99,4 @@ nonzero-next (x ∷ es) e = ap (λ r. cond (same (x .weight) (pos 0)) r (x ∷ r
   where
     go : (b z : Bool) → cond b (cond z (nonzero es) (nonzero es ++ (e ∷ []))) (x ∷ cond z (nonzero es) (nonzero es ++ (e ∷ [])))
         ≡ cond z (cond b (nonzero es) (x ∷ nonzero es)) (cond b (nonzero es) (x ∷ nonzero es) ++ (e ∷ []))
-    go true true = refl
-    go true false = refl
-    go false true = refl
-    go false false = refl
+    go b z = elim b [ true ↦ elim z [ true ↦ refl | false ↦ refl ] | false ↦ elim z [ true ↦ refl | false ↦ refl ] ]

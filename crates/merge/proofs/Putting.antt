@@ -1,38 +1,32 @@
 -- One entry more in the part and in the table: the table's word at the literal is the slot of the literal, so that 0 says that the entry
 -- goes behind all others, and i + 1 that entry i has the literal and is joined. No other literal's slot changes.
 use mathlib.Core.Path.{_≡_, refl, sym, ap, _∙_, subst}
-use mathlib.Core.Bool.{Bool, true, false}
+use mathlib.Core.Bool.{true, false}
 use mathlib.Core.List.{List, [], _∷_}
 use mathlib.Core.Logic.{⊎-elim}
 use Prim.Native.Nat.{ℕ, zero, suc, _+_, _-_, _*_, _≤_, _<_}
 use native.Mathlib.Omega.{arith}
 use native.Mathlib.Numerals.{add-one}
 use native.Mathlib.Nat.{eq-or-lt-of-le}
-use lib.IntN.{ℤ, pos, negsuc, natAbs}
+use lib.IntN.{ℤ}
 use lib.ListN.{length, getD, set, length-set}
 use lib.Seq.{getD-set-same, getD-set-other}
 use lib.Dec.{T}
 use Rattle.numbers.specs.Words.{unbias, literal-word, literal-of}
-use Rattle.numbers.proofs.Words.{literal-of-word, literal-word-of, literal-atom}
+use Rattle.numbers.proofs.Words.{literal-of-word, literal-word-of}
 use Rattle.meaning.specs.Meaning.{atom, Entry, same, Each}
 use Rattle.meaning.specs.Merge.{joined, put}
 use Rattle.meaning.proofs.Members.{same→eq, eq→same, join}
-use Rattle.area.specs.Layout.{word, kind-of}
-use Rattle.merge.specs.Passes.{entry-of, Joinable, first-entries, slot, Places, Puttable, Literals, PutInto}
+use Rattle.meaning.proofs.Trails.{atom-half}
+use Rattle.area.specs.Layout.{word, kind-of, entry-of}
+use Rattle.merge.specs.Passes.{Joinable, first-entries, slot, Places, Puttable, Literals, PutInto}
 use Rattle.merge.proofs.Slots.{put-new, Found, put-old, slot-other, slot-new, slot-old, slot-most}
 use Rattle.merge.proofs.Held.{entries-length, entries-at, entries-set, entries-added}
 
-pub atom-size : (l : ℤ) → atom l ≡ natAbs l
-atom-size (pos a) = refl
-atom-size (negsuc a) = refl
-
 -- one literal or another
 pub either : (P : Type 0) (l m : ℤ) → (l ≡ m → P) → ((l ≡ m → ⊥) → P) → P
-either P l m here other = go (same l m) (same→eq l m) (eq→same l m)
-  where
-    go : (b : Bool) → (T b → l ≡ m) → (l ≡ m → T b) → P
-    go true f g = here (f tt)
-    go false f g = other g
+either P l m here other =
+    elim (same l m) as (λ b. (T b → l ≡ m) → (l ≡ m → T b) → P) [ true ↦ λ f g. here (f tt) | false ↦ λ f g. other g ] (same→eq l m) (eq→same l m)
 
 pub each-at : {A : Type 0} (P : A → Type 0) (xs : List A) (i : ℕ) (d : A) → i < length xs → Each P xs → P (getD xs i d)
 each-at P [] i d h e = let b : ⊥ = omega arith in absurd b
@@ -45,7 +39,7 @@ one-less (suc q) h = omega arith
 
 module _ {part table : List ℕ} {n kind x l : ℕ} (p : Puttable part table n kind x l) where
   atom-most : atom (literal-of l) ≤ 4096
-  atom-most = omega (arith, atom-size (literal-of l), literal-atom l (p .low))
+  atom-most = omega (arith, atom-half l)
 
   literal-back : literal-word (literal-of l) ≡ l
   literal-back = literal-word-of l (p .low)
@@ -70,43 +64,30 @@ module _ {part table : List ℕ} {n kind x l : ℕ} (p : Puttable part table n k
     no-slot = sym table-slot ∙ new
 
     new-entries : first-entries (set (set part (2 * n) x) (2 * n + 1) l) (n + 1) ≡ put (kind-of kind) (first-entries part n) (entry-of x l)
-    new-entries =
-        ap (first-entries (set (set part (2 * n) x) (2 * n + 1) l)) (add-one n) ∙ entries-added part n x l (p .room)
+    new-entries = ap (first-entries (set (set part (2 * n) x) (2 * n + 1) l)) (add-one n) ∙ entries-added part n x l (p .room)
         ∙ sym (put-new (kind-of kind) (first-entries part n) (entry-of x l) no-slot)
 
     new-places : Places (set table l (n + 1)) (put (kind-of kind) (first-entries part n) (entry-of x l))
     new-places = record { size = length-set table l (n + 1) ∙ p .places .size; each = at }
       where
         at : (m : ℤ) → atom m ≤ 4096 → getD (set table l (n + 1)) (literal-word m) 0 ≡ slot (put (kind-of kind) (first-entries part n) (entry-of x l)) m
-        at m h =
-            either (getD (set table l (n + 1)) (literal-word m) 0 ≡ slot (put (kind-of kind) (first-entries part n) (entry-of x l)) m) m (literal-of l)
-            (λ (e : m ≡ literal-of l).
-            ap (λ z. getD (set table l (n + 1)) (literal-word z) 0) e ∙ ap (λ i. getD (set table l (n + 1)) i 0) literal-back
-            ∙ getD-set-same table l (n + 1) 0 (let s = p .places .size in let q = p .high in omega arith)
-            ∙ add-one n ∙ ap suc (sym held-length)
+        at m h = either (getD (set table l (n + 1)) (literal-word m) 0 ≡ slot (put (kind-of kind) (first-entries part n) (entry-of x l)) m) m (literal-of l)
+            (λ (e : m ≡ literal-of l). ap (λ z. getD (set table l (n + 1)) (literal-word z) 0) e ∙ ap (λ i. getD (set table l (n + 1)) i 0) literal-back
+            ∙ getD-set-same table l (n + 1) 0 (let s = p .places .size in let q = p .high in omega arith) ∙ add-one n ∙ ap suc (sym held-length)
             ∙ sym (slot-new (kind-of kind) (first-entries part n) (entry-of x l) no-slot)
-            ∙ ap (slot (put (kind-of kind) (first-entries part n) (entry-of x l))) (sym e))
-            (λ (d : m ≡ literal-of l → ⊥).
+            ∙ ap (slot (put (kind-of kind) (first-entries part n) (entry-of x l))) (sym e)) (λ (d : m ≡ literal-of l → ⊥).
             getD-set-other table l (literal-word m) (n + 1) 0 (other-word m d) ∙ p .places .each m h
             ∙ sym (slot-other (kind-of kind) (first-entries part n) (entry-of x l) m (λ e. d (sym e))))
 
     new-literals : Literals part n → Literals (set (set part (2 * n) x) (2 * n + 1) l) (n + 1)
-    new-literals h i g =
-        ⊎-elim {A = i ≡ n} {B = i < n}
+    new-literals h i g = ⊎-elim {A = i ≡ n} {B = i < n}
         (λ (e : i ≡ n). let w : word (set (set part (2 * n) x) (2 * n + 1) l) (2 * n + 1) ≡ l = getD-set-same (set part (2 * n) x) (2 * n + 1) l 0 (let r = p .room in omega (arith, length-set part (2 * n) x)) in
-        rw (e, w) (p .low))
-        (λ (q : i < n). let w : word (set (set part (2 * n) x) (2 * n + 1) l) (2 * i + 1) ≡ word part (2 * i + 1) =
+        rw (e, w) (p .low)) (λ (q : i < n). let w : word (set (set part (2 * n) x) (2 * n + 1) l) (2 * i + 1) ≡ word part (2 * i + 1) =
         getD-set-other (set part (2 * n) x) (2 * n + 1) (2 * i + 1) l 0 (λ z. omega arith) ∙ getD-set-other part (2 * n) (2 * i + 1) x 0 (λ z. omega arith) in
-        rw w (h i q))
-        (eq-or-lt-of-le (omega arith))
+        rw w (h i q)) (eq-or-lt-of-le (omega arith))
 
     pub put-behind : PutInto part (set (set part (2 * n) x) (2 * n + 1) l) (set table l (n + 1)) n kind x l (n + 1)
-    put-behind = record {
-      entries = new-entries;
-      places = rw new-entries new-places;
-      literals = new-literals;
-      most = omega arith;
-    }
+    put-behind = record { entries = new-entries; places = rw new-entries new-places; literals = new-literals; most = omega arith }
 
   -- ---- a literal that has an entry
 
@@ -121,26 +102,21 @@ module _ {part table : List ℕ} {n kind x l : ℕ} (p : Puttable part table n k
     there = entries-at part n i (entry-of 0 0) old-few (let r = p .room in omega arith)
 
     pub old-joinable : Joinable (kind-of kind) (unbias (word part (2 * i))) (unbias x)
-    old-joinable =
-        subst (λ (e : Entry). Joinable (kind-of kind) (e .weight) (unbias x)) there
+    old-joinable = subst (λ (e : Entry). Joinable (kind-of kind) (e .weight) (unbias x)) there
         (each-at (λ e. Joinable (kind-of kind) (e .weight) (unbias x)) (first-entries part n) i (entry-of 0 0) (found .low) (p .joinable))
 
     module _ (z : ℕ) (is : unbias z ≡ joined (kind-of kind) (unbias (word part (2 * i))) (unbias x)) where
       old-entries : first-entries (set part (2 * i) z) n ≡ put (kind-of kind) (first-entries part n) (entry-of x l)
-      old-entries =
-          entries-set part n i z old-few (let r = p .room in omega arith)
+      old-entries = entries-set part n i z old-few (let r = p .room in omega arith)
           ∙ ap (λ w. set (first-entries part n) i (record { weight = w; literal = literal-of (word part (2 * i + 1)) })) is
-          ∙ ap (λ y. set (first-entries part n) i (join (kind-of kind) y (entry-of x l))) (sym there)
-          ∙ sym (found .put-is)
+          ∙ ap (λ y. set (first-entries part n) i (join (kind-of kind) y (entry-of x l))) (sym there) ∙ sym (found .put-is)
 
       old-places : Places table (put (kind-of kind) (first-entries part n) (entry-of x l))
       old-places = record { size = p .places .size; each = at }
         where
           at : (m : ℤ) → atom m ≤ 4096 → getD table (literal-word m) 0 ≡ slot (put (kind-of kind) (first-entries part n) (entry-of x l)) m
-          at m h =
-              either (getD table (literal-word m) 0 ≡ slot (put (kind-of kind) (first-entries part n) (entry-of x l)) m) m (literal-of l)
-              (λ (e : m ≡ literal-of l).
-              ap (λ z. getD table (literal-word z) 0) e ∙ ap (λ i. getD table i 0) literal-back ∙ old
+          at m h = either (getD table (literal-word m) 0 ≡ slot (put (kind-of kind) (first-entries part n) (entry-of x l)) m) m (literal-of l)
+              (λ (e : m ≡ literal-of l). ap (λ z. getD table (literal-word z) 0) e ∙ ap (λ i. getD table i 0) literal-back ∙ old
               ∙ sym (slot-old (kind-of kind) (first-entries part n) (entry-of x l) i (sym table-slot ∙ old))
               ∙ ap (slot (put (kind-of kind) (first-entries part n) (entry-of x l))) (sym e))
               (λ (d : m ≡ literal-of l → ⊥). p .places .each m h ∙ sym (slot-other (kind-of kind) (first-entries part n) (entry-of x l) m (λ e. d (sym e))))
@@ -149,9 +125,4 @@ module _ {part table : List ℕ} {n kind x l : ℕ} (p : Puttable part table n k
       old-literals h j g = let w : word (set part (2 * i) z) (2 * j + 1) ≡ word part (2 * j + 1) = getD-set-other part (2 * i) (2 * j + 1) z 0 (λ q. omega arith) in rw w (h j g)
 
       pub put-onto : PutInto part (set part (2 * i) z) table n kind x l n
-      put-onto = record {
-        entries = old-entries;
-        places = rw old-entries old-places;
-        literals = old-literals;
-        most = omega arith;
-      }
+      put-onto = record { entries = old-entries; places = rw old-entries old-places; literals = old-literals; most = omega arith }

@@ -17,8 +17,8 @@ use Rattle.meaning.specs.Meaning.{same}
 use Rattle.meaning.specs.Merge.{nonzero}
 use Rattle.meaning.proofs.Members.{same→eq, eq→same}
 use Rattle.meaning.proofs.Orders.{is-true, is-false}
-use Rattle.area.specs.Layout.{word}
-use Rattle.merge.specs.Passes.{entry-of, first-entries, Literals, Sifted}
+use Rattle.area.specs.Layout.{word, entry-of}
+use Rattle.merge.specs.Passes.{first-entries, Literals, Sifted}
 use Rattle.merge.proofs.Prefix.{nonzero-next}
 use Rattle.merge.proofs.Held.{entries-none, entries-next, entries-added}
 
@@ -35,8 +35,7 @@ sift-none before = record {
 
 module _ {before part : List ℕ} {k m : ℕ} (s : Sifting before part k m) (room : 2 * k + 1 < length before) where
   one-more : nonzero (first-entries before (k + 1)) ≡ cond (same (unbias (word before (2 * k))) (pos 0)) (nonzero (first-entries before k)) (nonzero (first-entries before k) ++ (entry-of (word before (2 * k)) (word before (2 * k + 1)) ∷ []))
-  one-more =
-      ap (λ n. nonzero (first-entries before n)) (add-one k) ∙ ap nonzero (entries-next before k room)
+  one-more = ap (λ n. nonzero (first-entries before n)) (add-one k) ∙ ap nonzero (entries-next before k room)
       ∙ nonzero-next (first-entries before k) (entry-of (word before (2 * k)) (word before (2 * k + 1)))
 
   weight-same : word part (2 * k) ≡ word before (2 * k)
@@ -76,16 +75,12 @@ module _ {before part : List ℕ} {k m : ℕ} (s : Sifting before part k m) (roo
         ap (first-entries moved) (add-one m) ∙ entries-added part m (word part (2 * k)) (word part (2 * k + 1)) (let f = s .sifted .few in omega arith)
         ∙ ap (λ es. es ++ (entry-of (word part (2 * k)) (word part (2 * k + 1)) ∷ [])) (s .sifted .entries)
         ∙ ap (λ x. nonzero (first-entries before k) ++ (entry-of x (word part (2 * k + 1)) ∷ [])) weight-same
-        ∙ ap (λ x. nonzero (first-entries before k) ++ (entry-of (word before (2 * k)) x ∷ [])) literal-same
-        ∙ sym (one-more ∙ rw z)
+        ∙ ap (λ x. nonzero (first-entries before k) ++ (entry-of (word before (2 * k)) x ∷ [])) literal-same ∙ sym (one-more ∙ rw z)
 
     kept-literals : Literals before (k + 1) → Literals moved (m + 1)
-    kept-literals h i g =
-        ⊎-elim {A = i ≡ m} {B = i < m}
-        (λ (e : i ≡ m). rw (e, last-literal) (h k (omega arith)))
+    kept-literals h i g = ⊎-elim {A = i ≡ m} {B = i < m} (λ (e : i ≡ m). rw (e, last-literal) (h k (omega arith)))
         (λ (q : i < m). let w : word moved (2 * i + 1) ≡ word part (2 * i + 1) = other (2 * i + 1) (λ z. omega arith) (λ z. omega arith) in
-        rw w (s .sifted .literals (λ j f. h j (omega arith)) i q))
-        (eq-or-lt-of-le (omega arith))
+        rw w (s .sifted .literals (λ j f. h j (omega arith)) i q)) (eq-or-lt-of-le (omega arith))
 
     pub sift-keep : Sifting before (set (set part (2 * m) (word part (2 * k))) (2 * m + 1) (word part (2 * k + 1))) (k + 1) (m + 1)
     sift-keep = record {
@@ -105,9 +100,6 @@ wipe-none before from = record { front = refl; zeros = λ j h g. let b : ⊥ = o
 pub wipe-next : {before part : List ℕ} {from i : ℕ} → Wiping before part from i → from ≤ i → i < length part → Wiping before (set part i 0) from (i + 1)
 wipe-next {before} {part} {from} {i} w low high = record {
   front = take-set-le from part i 0 low ∙ w .front;
-  zeros = λ j h g.
-      ⊎-elim {A = j ≡ i} {B = j < i}
-      (λ (e : j ≡ i). rw e (getD-set-same part i 0 0 high))
-      (λ (q : j < i). getD-set-other part i j 0 0 (λ e. omega arith) ∙ w .zeros j h q)
-      (eq-or-lt-of-le (omega arith));
+  zeros = λ j h g. ⊎-elim {A = j ≡ i} {B = j < i} (λ (e : j ≡ i). rw e (getD-set-same part i 0 0 high))
+      (λ (q : j < i). getD-set-other part i j 0 0 (λ e. omega arith) ∙ w .zeros j h q) (eq-or-lt-of-le (omega arith));
 }

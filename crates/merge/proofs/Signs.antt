@@ -15,8 +15,8 @@ use Rattle.signed.specs.Sign.{is-negative}
 use Rattle.signed.proofs.Casts.{back}
 use Rattle.meaning.specs.Meaning.{Entry, Kind, sum, product, count, maximum, minimum, mixes}
 use Rattle.meaning.specs.Merge.{turned-by, freed-by}
-use Rattle.area.specs.Layout.{kind-of}
-use Rattle.merge.specs.Passes.{entry-of, turn, freed, TurnedIs, taken}
+use Rattle.area.specs.Layout.{kind-of, entry-of}
+use Rattle.merge.specs.Passes.{turn, freed, TurnedIs, taken}
 
 -- ---- from size and sign
 
@@ -72,32 +72,16 @@ taken-other (suc (suc (suc (suc k)))) b h = refl
 -- ---- turned entries
 
 turn-plain : (k : Kind) (e : Entry) → mixes k ≡ false → turn k e ≡ e
-turn-plain sum e h = cc
-turn-plain product e h = refl
-turn-plain count e h = cc
-turn-plain maximum e h = refl
-turn-plain minimum e h = refl
+turn-plain k e = elim k [ sum ↦ λ h. cc | product ↦ λ h. refl | count ↦ λ h. cc | maximum ↦ λ h. refl | minimum ↦ λ h. refl ]
 
 freed-plain : (k : Kind) (e : Entry) → mixes k ≡ false → freed k e ≡ pos 0
-freed-plain sum e h = cc
-freed-plain product e h = refl
-freed-plain count e h = cc
-freed-plain maximum e h = refl
-freed-plain minimum e h = refl
+freed-plain k e = elim k [ sum ↦ λ h. cc | product ↦ λ h. refl | count ↦ λ h. cc | maximum ↦ λ h. refl | minimum ↦ λ h. refl ]
 
 turn-mixed : (k : Kind) (e : Entry) → mixes k ≡ true → turn k e ≡ turned-by (e .weight) (e .literal)
-turn-mixed sum e h = refl
-turn-mixed product e h = cc
-turn-mixed count e h = refl
-turn-mixed maximum e h = cc
-turn-mixed minimum e h = cc
+turn-mixed k e = elim k [ sum ↦ λ h. refl | product ↦ λ h. cc | count ↦ λ h. refl | maximum ↦ λ h. cc | minimum ↦ λ h. cc ]
 
 freed-mixed : (k : Kind) (e : Entry) → mixes k ≡ true → freed k e ≡ freed-by (e .weight) (e .literal)
-freed-mixed sum e h = refl
-freed-mixed product e h = cc
-freed-mixed count e h = refl
-freed-mixed maximum e h = cc
-freed-mixed minimum e h = cc
+freed-mixed k e = elim k [ sum ↦ λ h. refl | product ↦ λ h. cc | count ↦ λ h. refl | maximum ↦ λ h. cc | minimum ↦ λ h. cc ]
 
 pub turned-plain : (kind x l : ℕ) → mixes (kind-of kind) ≡ false → 2 ≤ l → l ≤ 8193 → TurnedIs kind x l (record { weight = x; literal = l; freed = half })
 turned-plain kind x l m low high = record {

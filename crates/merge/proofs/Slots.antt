@@ -14,19 +14,15 @@ use Rattle.meaning.proofs.Orders.{is-true, is-false}
 use Rattle.merge.specs.Passes.{after, slot}
 
 after-zero : (n : ℕ) → after n ≡ 0 → n ≡ 0
-after-zero zero e = refl
-after-zero (suc n) e = let b : ⊥ = omega arith in absurd b
+after-zero n = elim n [ zero ↦ λ e. refl | suc n ↦ λ e. absurd (omega arith) ]
 
 -- a literal with no entry goes to the end
 pub put-new : (k : Kind) (xs : List Entry) (e : Entry) → slot xs (e .literal) ≡ 0 → put k xs e ≡ xs ++ (e ∷ [])
 unfolding put slot
 put-new k [] e h = refl
-put-new k (x ∷ xs) e h = go (same (x .literal) (e .literal)) (put-new k xs e) h
-  where
-    go : (b : Bool) → (slot xs (e .literal) ≡ 0 → put k xs e ≡ xs ++ (e ∷ [])) → cond b 1 (after (slot xs (e .literal))) ≡ 0
-        → cond b (join k x e ∷ xs) (x ∷ put k xs e) ≡ x ∷ (xs ++ (e ∷ []))
-    go true ih q = let b : ⊥ = omega arith in absurd b
-    go false ih q = ap (λ r. x ∷ r) (ih (after-zero (slot xs (e .literal)) q))
+put-new k (x ∷ xs) e h =
+    elim (same (x .literal) (e .literal)) as (λ b. cond b 1 (after (slot xs (e .literal))) ≡ 0 → cond b (join k x e ∷ xs) (x ∷ put k xs e) ≡ x ∷ (xs ++ (e ∷ [])))
+    [ true ↦ λ q. absurd (omega arith) | false ↦ λ q. ap (λ r. x ∷ r) (put-new k xs e (after-zero (slot xs (e .literal)) q)) ] h
 
 -- an entry that is there keeps its place
 pub record Found (k : Kind) (xs : List Entry) (e d : Entry) (i : ℕ) : Type 0 where
@@ -57,11 +53,9 @@ same-refl l = is-true (eq→same l l refl)
 pub slot-other : (k : Kind) (xs : List Entry) (e : Entry) (l : ℤ) → (e .literal ≡ l → ⊥) → slot (put k xs e) l ≡ slot xs l
 unfolding put slot
 slot-other k [] e l d = let f : same (e .literal) l ≡ false = is-false (λ t. d (same→eq (e .literal) l t)) in rw f
-slot-other k (x ∷ xs) e l d = go (same (x .literal) (e .literal)) (slot-other k xs e l d)
-  where
-    go : (b : Bool) → slot (put k xs e) l ≡ slot xs l → slot (cond b (join k x e ∷ xs) (x ∷ put k xs e)) l ≡ cond (same (x .literal) l) 1 (after (slot xs l))
-    go true ih = refl
-    go false ih = ap (λ s. cond (same (x .literal) l) 1 (after s)) ih
+slot-other k (x ∷ xs) e l d =
+    elim (same (x .literal) (e .literal)) as (λ b. slot (cond b (join k x e ∷ xs) (x ∷ put k xs e)) l ≡ cond (same (x .literal) l) 1 (after (slot xs l)))
+    [ true ↦ refl | false ↦ ap (λ s. cond (same (x .literal) l) 1 (after s)) (slot-other k xs e l d) ]
 
 pub slot-new : (k : Kind) (xs : List Entry) (e : Entry) → slot xs (e .literal) ≡ 0 → slot (put k xs e) (e .literal) ≡ suc (length xs)
 unfolding put slot

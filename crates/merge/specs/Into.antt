@@ -7,7 +7,6 @@ use lib.IntN.{ℤ, pos}
 use lib.ListN.{length, take}
 use lib.Signed.{leZ}
 use lib.Dec.{T}
-use Rattle.types.specs.declared.Limits.{Limits}
 use Rattle.types.specs.Limits.{bound-limit, widest}
 use Rattle.numbers.specs.Words.{unbias}
 use Rattle.meaning.specs.Meaning.{place, product, mixes, multiplied, Each}

@@ -8,22 +8,18 @@ use lib.IntN.{ℤ, pos, natAbs, _*ℤ_}
 use lib.ListN.{length, getD, take}
 use lib.Signed.{leZ}
 use lib.Dec.{T}
-use Rattle.types.specs.declared.Limits.{Limits}
 use Rattle.types.specs.Limits.{weight-limit, bound-limit, widest}
-use Rattle.numbers.specs.Words.{unbias, literal-word, literal-of}
+use Rattle.numbers.specs.Words.{unbias, literal-word}
 use Rattle.meaning.specs.Meaning.{atom, Entry, Kind, sum, product, count, maximum, minimum, same, members, mixes, multiplied, Each}
 use Rattle.meaning.specs.Merge.{turned-by, freed-by, turned, constant, put, collect, nonzero}
 use Rattle.kinds.specs.Kinds.{weight-fits}
-use Rattle.area.specs.Layout.{word, kind-of, entries-of}
+use Rattle.area.specs.Layout.{word, kind-of, entry-of, entries-of}
 use Rattle.area.specs.Whole.{weights-of}
 use Rattle.columns.specs.Refusals.{some}
 use Rattle.merge.specs.declared.Turned.{Turned}
 use Rattle.merge.specs.declared.Merged.{Merged}
 
 -- ---- one entry
-
-abbrev pub entry-of : ℕ → ℕ → Entry
-entry-of x l = record { weight = unbias x; literal = literal-of l }
 
 -- as it is collected, and what it adds to the constant
 abbrev pub turn : Kind → Entry → Entry

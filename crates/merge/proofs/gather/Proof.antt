@@ -10,7 +10,8 @@ use lib.ListN.{length, getD, take, replicate}
 use lib.Seq.{take-all}
 use Rattle.numbers.specs.Words.{bias, literal-word}
 use Rattle.columns.specs.Columns.{paired}
-use Rattle.merge.specs.Passes.{entry-of, Gathered, Takeable}
+use Rattle.area.specs.Layout.{entry-of}
+use Rattle.merge.specs.Passes.{Gathered, Takeable}
 use Rattle.merge.proofs.Taking.{paired-length, weight-small, weight-is, literal-small, literal-is, one-more, takeable, gathered-none}
 use Rattle.merge.proofs.gather.Statement.{statement}
 use Rattle.merge.proofs.gather.Tie as tie
@@ -56,8 +57,7 @@ returns : tie.Need-returns Inv-loop μ-loop
 returns c = rw (take-all (c .before .loop .i) (paired (c .before .before .before .args .weights .now) (c .before .before .before .args .literals .now)) (omega (arith, paired-length (c .before .before .before .args .weights .now) (c .before .before .before .args .literals .now) (c .before .before .before .pre .same)))) at (c .before .loop .inv .2 .collected)
 
 pub gather-spec : {M : Type 1} → statement M
-gather-spec =
-    tie.close
+gather-spec = tie.close
     (tie.spec
     Inv-loop μ-loop loop-holds (λ c. search needs) (λ c. search needs) weight-word-requires (λ c. search needs)
     (λ c. omega (arith, c .before .before .before .before .before .pre .same)) literal-word-requires (λ c. search needs) add-requires

@@ -32,8 +32,7 @@ returns-2 : tie.Need-returns-2
 returns-2 c = put-onto (c .before .before .before .before .before .pre) (place (c .before .before)) (is-place (c .before .before)) (c .join .result) (c .join .ensures)
 
 pub put-spec : {M : Type 1} → statement M
-put-spec =
-    tie.close
+put-spec = tie.close
     (tie.spec
     (λ c. search needs) (λ c. search needs) (λ c. omega (arith, slot-few (c .before .before .pre))) (λ c. search needs) (λ c. search needs)
     (λ c. search needs) (λ c. search needs) (λ c. search needs) (λ c. search needs) (λ c. search needs) (λ c. search needs) (λ c. search needs)
