@@ -1,16 +1,18 @@
 -- One entry more, as a loop over the area goes: the words from entry i on are its weight, its literal and the words from entry i + 1 on.
 -- So what a fold makes of the words from i on stays what it makes of all, and that is a loop's invariant.
-use mathlib.Core.Path.{_≡_, refl, sym, ap, _∙_, subst}
-use mathlib.Core.Bool.{Bool}
+use mathlib.Core.Path.{_≡_, sym, ap, _∙_, subst}
+use mathlib.Core.Bool.{Bool, true, false}
 use mathlib.Core.List.{List, [], _∷_}
 use Prim.Native.Nat.{ℕ, suc, _+_, _*_, _/_, _≤_, _<_}
 use native.Mathlib.Omega.{arith}
 use lib.ListN.{length, getD}
 use lib.Seq.{slice, slice-cons, slice-empty}
-use Rattle.area.specs.Layout.{entry-words}
+use Rattle.area.specs.Layout.{value-at, weight-in, literal-in, entry-words}
 use Rattle.extremes.specs.declared.Kind.{Kind}
-use Rattle.extremes.specs.Words.{empty-word, weight-in, literal-in, combined, reach-word, contributions, folded}
-use Rattle.extremes.specs.Room.{Steps, Room}
+use Rattle.extremes.specs.declared.Extremes.{Extremes}
+use Rattle.extremes.specs.declared.EntryWords.{EntryWords}
+use Rattle.extremes.specs.Words.{empty-word, combined, reach-word, ReachesAre, contributions, folded, StepIs, FoldsAre}
+use Rattle.extremes.specs.Room.{Entries, Inside, EntryIs, Steps, Room, Rooms}
 
 -- ---- the words from entry i on
 
@@ -34,12 +36,10 @@ from-start area start count = let e : start + 2 * 0 ≡ start = omega arith in a
 pub from-end : (area : List ℕ) (start count i : ℕ) → i ≡ count → words-from area start count i ≡ []
 from-end area start count i e = ap (λ (m : ℕ). slice (start + 2 * m) (start + 2 * count) area) e ∙ slice-empty (start + 2 * count) area
 
--- ---- folds
+pub entry-inside : {area : List ℕ} {start count n i : ℕ} → Entries area start count n → i < count → Inside area start n i
+entry-inside {i = i} e h = record { atoms-low = e .atoms-low; words = omega (arith, e .inside); values = e .values; literal = e .literal i h; atom-high = e .atom-high i h }
 
--- folding the rest from acc on comes to the total, and does not wrap
-pub record Folding (k : Kind) (acc : ℕ) (rest : List ℕ) (total : ℕ) : Type 0 where
-  pub room : Room k acc rest
-  pub folds : folded k acc rest ≡ total
+-- ---- contributions
 
 module _ (k : Kind) (up : Bool) (v : ℕ → ℕ) (area : List ℕ) (start count : ℕ) where
   abbrev pub rest-from : ℕ → List ℕ
@@ -56,21 +56,56 @@ module _ (k : Kind) (up : Bool) (v : ℕ → ℕ) (area : List ℕ) (start count
   unfolding contributions
   rest-end i e = ap (contributions k up v) (from-end area start count i e)
 
-  pub folding-starts : (acc : ℕ) → Room k acc (contributions k up v (entry-words area start count))
-      → Folding k acc (rest-from 0) (folded k acc (contributions k up v (entry-words area start count)))
-  folding-starts acc r = rw (from-start area start count) (record { room = r; folds = refl })
+-- what is computed of an entry that was read
+pub reach-is : {area : List ℕ} {start n i none x : ℕ} {e : EntryWords} (k : Kind) (u : Bool) (count : ℕ) → EntryIs area start n i e → none ≡ empty-word k
+    → x ≡ reach-word u none (e .weight) (e .literal) (e .value) → x ≡ next-in k u (value-at area n) area start count i
+reach-is k u count s q r = r ∙ rw (q, s .value-is, s .weight-is, s .literal-is)
 
-  pub folding-steps : (acc total i : ℕ) → i < count → start + 2 * count ≤ length area → Folding k acc (rest-from i) total → Steps k acc (next-in i)
-  unfolding Room
-  folding-steps acc total i h g f = subst (Room k acc) (rest-next i h g) (f .room) .0
+-- ---- folds
 
-  pub folding-next : (acc total i : ℕ) → i < count → start + 2 * count ≤ length area
-      → Folding k acc (rest-from i) total → Folding k (combined k acc (next-in i)) (rest-from (i + 1)) total
-  unfolding Room folded
-  folding-next acc total i h g f =
-      let s : Folding k acc (next-in i ∷ rest-from (i + 1)) total = subst (λ r. Folding k acc r total) (rest-next i h g) f in
-      record { room = s .room .1; folds = s .folds }
+-- folding the contributions from entry i on, from acc, comes to the fold of all from `first`, and does not wrap
+pub record Folding (k : Kind) (u : Bool) (area : List ℕ) (start count n first i acc : ℕ) : Type 0 where
+  pub room : Room k acc (rest-from k u (value-at area n) area start count i)
+  pub folds : folded k acc (rest-from k u (value-at area n) area start count i) ≡ folded k first (contributions k u (value-at area n) (entry-words area start count))
 
-  pub folding-ends : (acc total i : ℕ) → i ≡ count → Folding k acc (rest-from i) total → acc ≡ total
+-- both folds
+abbrev pub Foldings : Kind → List ℕ → (start count n first i least greatest : ℕ) → Type 0
+Foldings k area start count n first i least greatest = Folding k false area start count n first i least × Folding k true area start count n first i greatest
+
+module _ {k : Kind} {area : List ℕ} {start count n first : ℕ} where
+  folding-starts : (u : Bool) → Rooms k first (value-at area n) (entry-words area start count) → Folding k u area start count n first 0 first
+  folding-starts u r = record { room = rw (from-start area start count) (r u); folds = rw (from-start area start count) }
+
+  pub foldings-start : Rooms k first (value-at area n) (entry-words area start count) → Foldings k area start count n first 0 first first
+  foldings-start r = (folding-starts false r, folding-starts true r)
+
+  pub foldings-end : {i least greatest : ℕ} → Foldings k area start count n first i least greatest → i ≡ count
+      → FoldsAre k first (value-at area n) (entry-words area start count) (record { least = least; greatest = greatest })
   unfolding folded
-  folding-ends acc total i e f = ap (folded k acc) (sym (rest-end i e)) ∙ f .folds
+  foldings-end {i} {least} {greatest} f e = record {
+    least-is = ap (folded k least) (sym (rest-end k false (value-at area n) area start count i e)) ∙ f .0 .folds;
+    greatest-is = ap (folded k greatest) (sym (rest-end k true (value-at area n) area start count i e)) ∙ f .1 .folds;
+  }
+
+  module _ {i : ℕ} (h : i < count) (g : Entries area start count n) where
+    folding-steps : (u : Bool) (acc : ℕ) → Folding k u area start count n first i acc → Steps k acc (next-in k u (value-at area n) area start count i)
+    unfolding Room
+    folding-steps u acc f = subst (Room k acc) (rest-next k u (value-at area n) area start count i h (g .inside)) (f .room) .0
+
+    folding-next : (u : Bool) (acc : ℕ) → Folding k u area start count n first i acc
+        → Folding k u area start count n first (i + 1) (combined k acc (next-in k u (value-at area n) area start count i))
+    unfolding Room folded
+    folding-next u acc f =
+        let e = rest-next k u (value-at area n) area start count i h (g .inside) in
+        record { room = subst (Room k acc) e (f .room) .1; folds = ap (folded k acc) (sym e) ∙ f .folds }
+
+    module _ {least greatest none : ℕ} {e : EntryWords} {x : Extremes} (f : Foldings k area start count n first i least greatest)
+        (s : EntryIs area start n i e) (q : none ≡ empty-word k) (r : ReachesAre none (e .weight) (e .literal) (e .value) x) where
+      pub foldings-step : Steps k least (x .least) × Steps k greatest (x .greatest)
+      foldings-step = (rw (reach-is k false count s q (r .least-is)) (folding-steps false least (f .0)), rw (reach-is k true count s q (r .greatest-is)) (folding-steps true greatest (f .1)))
+
+      pub foldings-next : {y : Extremes} → StepIs k least greatest (x .least) (x .greatest) y → Foldings k area start count n first (i + 1) (y .least) (y .greatest)
+      foldings-next z = (
+        rw (z .least-is, reach-is k false count s q (r .least-is)) (folding-next false least (f .0)),
+        rw (z .greatest-is, reach-is k true count s q (r .greatest-is)) (folding-next true greatest (f .1)),
+      )

@@ -56,15 +56,13 @@ starting-is Min c h = unword-empty Min
 
 -- ---- the extremes
 
-module _ (n : ℕ) (k : Kind) (upper : Bool) (bound c head written : ℕ) (words : List ℕ) (sound : Sound n k bound c head words) where
-  abbrev R : Rule
-  R = rule-words k upper bound c head written words
-
+module _ {n : ℕ} {k : Kind} {bound c head : ℕ} {words : List ℕ} (sound : Sound n k bound c head words) where
   pub extreme-in : (u : Bool) (v : ℕ → ℕ) → In k (extreme-word k u v c words)
   extreme-in u v = folded-in n k u v (start-word k c) words (sound .legal) (sound .start-in) (sound .rooms v u)
 
-  pub extreme-means : (u : Bool) (v : ℕ → ℕ) (t : List ℤ) → ShowsIn n v t → extreme (direction u) R t ≡ unword (extreme-word k u v c words)
+  pub extreme-means : (upper : Bool) (written : ℕ) (u : Bool) (v : ℕ → ℕ) (t : List ℤ) → ShowsIn n v t
+      → extreme (direction u) (rule-words k upper bound c head written words) t ≡ unword (extreme-word k u v c words)
   unfolding extreme
-  extreme-means u v t sh =
+  extreme-means upper written u v t sh =
       sym (folded-means n k u v t sh (start-word k c) words (sound .legal) (sound .start-in) (sound .rooms v u)
       ∙ ap (λ z. gather (meant k) (extreme-of (meant k) (direction u) t) z (entries-of words)) (starting-is k c (sound .start-in)))

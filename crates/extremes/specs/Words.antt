@@ -4,7 +4,6 @@ use mathlib.Core.Path.{_≡_}
 use mathlib.Core.Bool.{Bool, true, false, cond}
 use mathlib.Core.List.{List, [], _∷_}
 use Prim.Native.Nat.{ℕ, _+_, _-_, _*_, _/_, _%_, min, max}
-use lib.ListN.{getD}
 use lib.Dec.{eqb}
 use Rattle.numbers.specs.Words.{half, word as word-of}
 use Rattle.meaning.specs.Meaning as m
@@ -39,14 +38,6 @@ combined Product a b = half + (a - half) * (b - half)
 combined Count a b = a + b - half
 combined Max a b = max a b
 combined Min a b = min a b
-
--- ---- entry i of those from `start` on
-
-abbrev pub weight-in : List ℕ → ℕ → ℕ → ℕ
-weight-in area start i = getD area (start + 2 * i) 0
-
-abbrev pub literal-in : List ℕ → ℕ → ℕ → ℕ
-literal-in area start i = getD area (start + 2 * i + 1) 0
 
 -- ---- directions: `true` is up
 

@@ -5,7 +5,7 @@ ghost use Rattle.numbers.specs.Words.{half, top};
 ghost use Rattle.area.specs.Layout.{kind-of, value-at, entry-words};
 ghost use Rattle.extremes.specs.Stored.{Ready, ExtremesAre};
 ghost use Rattle.extremes.specs.Words.{meant, empty-word, start-word, furthest-word, ReachesAre, StepIs, FoldsAre};
-ghost use Rattle.extremes.specs.Room.{Steps, Entries, Rooms};
+ghost use Rattle.extremes.specs.Room.{Entries, Inside, EntryIs, Steps, Rooms};
 
 const HALF: u64 = 4_611_686_018_427_387_904;
 
@@ -13,6 +13,13 @@ const HALF: u64 = 4_611_686_018_427_387_904;
 pub struct Extremes {
     pub least: u64,
     pub greatest: u64,
+}
+
+// The two words of an entry, and the value of its atom.
+pub struct EntryWords {
+    pub weight: u64,
+    pub literal: u64,
+    pub value: u64,
 }
 
 // The kinds, to go by cases.
@@ -131,6 +138,21 @@ fn step(kind: Kind, least: u64, greatest: u64, low: u64, high: u64) -> Extremes
     }
 }
 
+// Entry i of those from `start` on.
+pub fn entry_in(area: &[u64], start: usize, n: usize, i: usize) -> EntryWords
+    requires { ⌜ Inside (now area) start n i ⌝ }
+    ensures { λ r. ⌜ EntryIs (now (area .entry)) start n i r ⌝ }
+{
+    let weight = area::weight_in(area, start, i);
+    let literal = area::literal_in(area, start, i);
+    let value = area::value_at(area, n, (literal / 2) as usize);
+    EntryWords {
+        weight,
+        literal,
+        value,
+    }
+}
+
 // Both folds in one loop over the entries.
 fn folds(area: &[u64], kind: Kind, first: u64, start: usize, count: usize, n: usize) -> Extremes
     requires { ⌜ Entries (now area) start count n ⌝ }
@@ -142,11 +164,8 @@ fn folds(area: &[u64], kind: Kind, first: u64, start: usize, count: usize, n: us
     let mut greatest = first;
     let mut i: usize = 0;
     while i < count {
-        let at = start + 2 * i;
-        let w = area[at];
-        let l = area[at + 1];
-        let v = area[n - 1 + (l / 2) as usize];
-        let x = reaches(none, w, l, v);
+        let e = entry_in(area, start, n, i);
+        let x = reaches(none, e.weight, e.literal, e.value);
         let both = step(kind, least, greatest, x.least, x.greatest);
         least = both.least;
         greatest = both.greatest;
@@ -182,9 +201,9 @@ pub fn extremes_of(area: &[u64], n: usize, count: usize, base: usize) -> Extreme
     requires { ⌜ Ready (now area) n count base ⌝ }
     ensures { λ r. ⌜ ExtremesAre (now (area .entry)) n count base r ⌝ }
 {
-    let kind = kind_of(area[base + 1] % 8);
-    let first = start_of(kind, area[base + 3]);
-    let start = 4 * n + 8 * count + 2 * area[base + 6] as usize;
-    let merged = (area[base + 7] / 65536) as usize;
+    let kind = kind_of(area::kind_at(area, base));
+    let first = start_of(kind, area::constant_at(area, base));
+    let start = area::entry_at(area, n, count, base);
+    let merged = area::merged_at(area, base);
     folds_by_kind(area, kind, first, start, merged, n)
 }

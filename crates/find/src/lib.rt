@@ -19,10 +19,12 @@ fn known_of(area: &[u64], n: usize, count: usize, s: usize) -> Known
     ensures { λ r. ⌜ KnownAt (now (area .entry)) n count s r ⌝ }
 {
     let base = 4 * n + 8 * s;
-    if area[base + 1] < 16 {
+    if !area::pending_at(area, base) {
         return Known::Silent;
     }
-    sentence::look(area, n, count, base, area[base + 4], area[base + 5])
+    let least = area::least_at(area, base);
+    let greatest = area::greatest_at(area, base);
+    sentence::look(area, n, count, base, least, greatest)
 }
 
 // The scan over the sentences and the entries, left at the first that speaks.
@@ -48,13 +50,10 @@ pub fn find(area: &[u64], n: usize, count: usize) -> Found
                 let merged = body.merged;
                 let mut i: usize = 0;
                 while i < merged {
-                    let at = start + 2 * i;
-                    let w = area[at];
-                    let l = area[at + 1];
-                    let v = area[n - 1 + (l / 2) as usize];
-                    if sentence::entry_turns(body, w, v) {
+                    let e = extremes::entry_in(area, start, n, i);
+                    if sentence::entry_turns(body, e.weight, e.value) {
                         let place = i + 1;
-                        let forced = sentence::entry_wanted(body, w, l);
+                        let forced = sentence::entry_wanted(body, e.weight, e.literal);
                         found = Found::Forced(s, forced, place);
                         break 'sentences;
                     }

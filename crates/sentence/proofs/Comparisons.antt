@@ -62,7 +62,7 @@ towards-is true false = refl
 towards-is false true = refl
 towards-is false false = refl
 
-module _ (n : ℕ) (k : Kind) (upper : Bool) (bound c head written : ℕ) (words : List ℕ) (sound : Sound n k bound c head words) where
+module _ {n : ℕ} {k : Kind} {bound c head : ℕ} {words : List ℕ} (sound : Sound n k bound c head words) (upper : Bool) (written : ℕ) where
   abbrev R : Rule
   R = rule-words k upper bound c head written words
 
@@ -73,5 +73,5 @@ module _ (n : ℕ) (k : Kind) (upper : Bool) (bound c head written : ℕ) (words
       let u = upwards upper b in
       let e = extreme-word k u v c words in
       ap (λ d. Bool·beq b (compared R (extreme d R t))) (towards-is upper b)
-      ∙ ap (λ z. Bool·beq b (compared R z)) (extreme-means n k upper bound c head written words sound u v t sh)
-      ∙ keeps-is bound e (sound .bound-low) (sound .bound-high) (in-top k e (extreme-in n k upper bound c head written words sound u v)) upper b
+      ∙ ap (λ z. Bool·beq b (compared R z)) (extreme-means sound upper written u v t sh)
+      ∙ keeps-is bound e (sound .bound-low) (sound .bound-high) (in-top k e (extreme-in sound u v)) upper b

@@ -74,7 +74,7 @@ put-agrees v o e a = go (ℕ-discrete a (o / 2))
     go (yes q) = inl (ap v q ∙ e)
     go (no d) = inr (inr (sym (value-other v (o / 2) (1 + o % 2) a d)))
 
-module _ (n : ℕ) (k : Kind) (upper : Bool) (bound c head written : ℕ) (words : List ℕ) (sound : Sound n k bound c head words)
+module _ {n : ℕ} {k : Kind} {bound c head : ℕ} {words : List ℕ} (sound : Sound n k bound c head words) (upper : Bool) (written : ℕ)
     (v : ℕ → ℕ) (t : List ℤ) (sh : ShowsIn n v t) (b : Bool) (hb : standing t head ≡ fixed b) where
   abbrev R : Rule
   R = rule-words k upper bound c head written words
@@ -100,12 +100,12 @@ module _ (n : ℕ) (k : Kind) (upper : Bool) (bound c head written : ℕ) (words
   small = limit-small upper bound (omega (arith, sound .bound-high))
 
   trail-refuted : refuted R t ≡ not (keeps u limit (E v))
-  trail-refuted = ap (refuted-at R t) hb ∙ ap not (kept-at n k upper bound c head written words sound b v t sh)
+  trail-refuted = ap (refuted-at R t) hb ∙ ap not (kept-at sound upper written b v t sh)
 
   entry-refuted : {w l : ℕ} → Member w l words → (o : ℕ) → 2 ≤ o → o / 2 ≡ l / 2 → refuted R (literal-of o ∷ t) ≡ not (keeps u limit (E (put v o)))
   entry-refuted e o h a =
       refuted-entry R t (literal-of o) b (λ q. member-off k n head e (sound .legal) (sound .headless) (sym (q ∙ literal-place o h ∙ a))) hb
-      ∙ ap not (kept-at n k upper bound c head written words sound b (put v o) (literal-of o ∷ t) (put-shows n v t o h sh))
+      ∙ ap not (kept-at sound upper written b (put v o) (literal-of o ∷ t) (put-shows n v t o h sh))
 
   -- ---- one open entry
 

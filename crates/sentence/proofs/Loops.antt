@@ -1,70 +1,82 @@
 -- One entry more, as the loops of the second best and of the scan go: what they make of the words from entry i on stays what they make of
 -- all, and that is each loop's invariant.
 use mathlib.Core.Path.{_≡_, sym, ap, _∙_, subst}
-use mathlib.Core.Bool.{Bool, cond, _&&_}
+use mathlib.Core.Bool.{Bool, true, false, cond}
 use mathlib.Core.List.{List, _∷_}
-use Prim.Native.Nat.{ℕ, _+_, _*_, _/_, _≤_, _<_}
-use lib.Dec.{eqb}
-use lib.ListN.{length}
-use Rattle.area.specs.Layout.{entry-words}
-use Rattle.extremes.specs.declared.Kind.{Kind}
-use Rattle.extremes.specs.Words.{empty-word, weight-in, literal-in, furthest-word, nearest-word, contributions}
-use Rattle.extremes.proofs.Loops.{words-from, from-next, from-start, from-end, rest-from, next-in, rest-next, rest-end}
+use Prim.Native.Nat.{ℕ, _+_, _/_, _<_}
+use Rattle.area.specs.Layout.{value-at, entry-words}
+use Rattle.extremes.specs.declared.EntryWords.{EntryWords}
+use Rattle.extremes.specs.Words.{empty-word, furthest-word, nearest-word, reach-word}
+use Rattle.extremes.specs.Room.{Entries, EntryIs}
+use Rattle.extremes.proofs.Loops.{words-from, from-next, from-start, from-end, rest-from, reach-is, rest-next, rest-end}
+use Rattle.sentence.specs.declared.Body.{Body}
 use Rattle.sentence.specs.declared.Said.{Said}
 use Rattle.sentence.specs.declared.Said.the-variants.{Silent, Forced}
-use Rattle.sentence.specs.Words.{second-best, turns-word, wanted-word, scanned}
+use Rattle.sentence.specs.Words.{best-kind, second-best, second-word, wanted-word, scanned}
 use Rattle.sentence.specs.Room.{Turns, Turnable}
+use Rattle.sentence.specs.Known.{turns-open}
 
 -- ---- the second best
 
-module _ (k : Kind) (up : Bool) (v : ℕ → ℕ) (area : List ℕ) (start count : ℕ) where
-  abbrev pub Seconds : ℕ → ℕ → ℕ → ℕ → Type 0
-  Seconds best second i total = second-best up best second (rest-from k up v area start count i) ≡ total
+-- from `best` and `next` on, the contributions from entry i on leave the whole second best
+pub record Seconds (up : Bool) (area : List ℕ) (start count n i best next : ℕ) : Type 0 where
+  pub leaves : second-best up best next (rest-from (best-kind up) up (value-at area n) area start count i) ≡ second-word up (value-at area n) (entry-words area start count)
 
-  pub seconds-start : (best second : ℕ) → Seconds best second 0 (second-best up best second (contributions k up v (entry-words area start count)))
-  seconds-start best second = ap (λ r. second-best up best second (contributions k up v r)) (from-start area start count)
+module _ {up : Bool} {area : List ℕ} {start count n : ℕ} where
+  pub seconds-start : {none : ℕ} → none ≡ empty-word (best-kind up) → Seconds up area start count n 0 none none
+  seconds-start e = record { leaves = rw (e, from-start area start count) }
 
-  pub seconds-next : (best second total i : ℕ) → i < count → start + 2 * count ≤ length area → Seconds best second i total
-      → Seconds (furthest-word up best (next-in k up v area start count i)) (furthest-word up second (nearest-word up best (next-in k up v area start count i))) (i + 1) total
+  pub seconds-next : {i best next none x near best′ next′ : ℕ} {e : EntryWords} → i < count → Entries area start count n → Seconds up area start count n i best next
+      → EntryIs area start n i e → none ≡ empty-word (best-kind up) → x ≡ reach-word up none (e .weight) (e .literal) (e .value) → near ≡ nearest-word up best x
+      → next′ ≡ furthest-word up next near → best′ ≡ furthest-word up best x → Seconds up area start count n (i + 1) best′ next′
   unfolding second-best
-  seconds-next best second total i h g s = ap (second-best up best second) (sym (rest-next k up v area start count i h g)) ∙ s
+  seconds-next {i} {best} {next} h g s w q x y z b = record {
+    leaves = rw (b, z, y, reach-is (best-kind up) up count w q x) (ap (second-best up best next) (sym (rest-next (best-kind up) up (value-at area n) area start count i h (g .inside))) ∙ s .leaves);
+  }
 
-  pub seconds-end : (best second total i : ℕ) → i ≡ count → Seconds best second i total → second ≡ total
+  pub seconds-end : {i best next : ℕ} → Seconds up area start count n i best next → i ≡ count → next ≡ second-word up (value-at area n) (entry-words area start count)
   unfolding second-best
-  seconds-end best second total i e s = ap (second-best up best second) (sym (rest-end k up v area start count i e)) ∙ s
+  seconds-end {i} {best} {next} s e = ap (second-best up best next) (sym (rest-end (best-kind up) up (value-at area n) area start count i e)) ∙ s .leaves
 
 -- ---- the scan
 
--- scanning the words from entry i on comes to the answer, and turning their open entries does not wrap
-pub record Scanning (k : Kind) (up : Bool) (limit e : ℕ) (v : ℕ → ℕ) (rest : List ℕ) (answer : Said) : Type 0 where
-  pub turnable : Turnable k up e v rest
-  pub scans : scanned k up limit e v rest ≡ answer
+abbrev pub scan-of : Body → List ℕ → ℕ → List ℕ → Said
+scan-of x area n words = scanned (x .kind) (x .up) (x .limit) (x .extreme) (value-at area n) words
 
-module _ (k : Kind) (up : Bool) (limit e : ℕ) (v : ℕ → ℕ) (area : List ℕ) (start count : ℕ) (answer : Said) where
-  pub scanning-starts : Turnable k up e v (entry-words area start count) → scanned k up limit e v (entry-words area start count) ≡ answer
-      → Scanning k up limit e v (words-from area start count 0) answer
-  scanning-starts t s = rw (from-start area start count) (record { turnable = t; scans = s })
+-- scanning the words from entry i on comes to the whole answer, and turning their open entries does not wrap
+pub record Scanning (x : Body) (area : List ℕ) (n i : ℕ) : Type 0 where
+  pub turnable : Turnable (x .kind) (x .up) (x .extreme) (value-at area n) (words-from area (x .start) (x .merged) i)
+  pub scans : scan-of x area n (words-from area (x .start) (x .merged) i) ≡ scan-of x area n (entry-words area (x .start) (x .merged))
 
-  module _ (i : ℕ) (h : i < count) (g : start + 2 * count ≤ length area) (s : Scanning k up limit e v (words-from area start count i) answer) where
-    abbrev open-turns : Bool
-    open-turns = eqb (v (literal-in area start i / 2)) 0 && turns-word k up limit e (weight-in area start i)
+module _ {x : Body} {area : List ℕ} {n : ℕ} where
+  pub scanning-starts : Turnable (x .kind) (x .up) (x .extreme) (value-at area n) (entry-words area (x .start) (x .merged)) → Scanning x area n 0
+  scanning-starts t = record { turnable = rw (from-start area (x .start) (x .merged)) t; scans = rw (from-start area (x .start) (x .merged)) }
 
-    here : Scanning k up limit e v (weight-in area start i ∷ literal-in area start i ∷ words-from area start count (i + 1)) answer
-    here = subst (λ r. Scanning k up limit e v r answer) (from-next area start count i h g) s
-
-    pub scanning-turns : v (literal-in area start i / 2) ≡ 0 → Turns k up e (weight-in area start i)
-    unfolding Turnable
-    scanning-turns = here .turnable .0
-
-    pub scanning-found : (b : Bool) → open-turns ≡ b
-        → cond b (Forced (wanted-word up (empty-word k) (weight-in area start i) (literal-in area start i))) (scanned k up limit e v (words-from area start count (i + 1))) ≡ answer
-    unfolding scanned
-    scanning-found b q = ap (λ x. cond x (Forced (wanted-word up (empty-word k) (weight-in area start i) (literal-in area start i))) (scanned k up limit e v (words-from area start count (i + 1)))) (sym q) ∙ here .scans
-
-    pub scanning-next : open-turns ≡ Bool.false → Scanning k up limit e v (words-from area start count (i + 1)) answer
-    unfolding Turnable
-    scanning-next q = record { turnable = here .turnable .1; scans = scanning-found Bool.false q }
-
-  pub scanning-ends : (i : ℕ) → i ≡ count → Scanning k up limit e v (words-from area start count i) answer → Silent ≡ answer
+  pub scanning-ends : {i : ℕ} → Scanning x area n i → i ≡ x .merged → Silent ≡ scan-of x area n (entry-words area (x .start) (x .merged))
   unfolding scanned
-  scanning-ends i q s = ap (scanned k up limit e v) (sym (from-end area start count i q)) ∙ s .scans
+  scanning-ends {i} s q = ap (scan-of x area n) (sym (from-end area (x .start) (x .merged) i q)) ∙ s .scans
+
+  module _ {i : ℕ} {e : EntryWords} (h : i < x .merged) (g : Entries area (x .start) (x .merged) n) (s : Scanning x area n i) (r : EntryIs area (x .start) n i e) where
+    next-words : words-from area (x .start) (x .merged) i ≡ e .weight ∷ e .literal ∷ words-from area (x .start) (x .merged) (i + 1)
+    next-words = rw (r .weight-is, r .literal-is) (from-next area (x .start) (x .merged) i h (g .inside))
+
+    value-here : value-at area n (e .literal / 2) ≡ e .value
+    value-here = rw (r .literal-is) (sym (r .value-is))
+
+    pub scanning-turns : e .value ≡ 0 → Turns (x .kind) (x .up) (x .extreme) (e .weight)
+    unfolding Turnable
+    scanning-turns z = subst (Turnable (x .kind) (x .up) (x .extreme) (value-at area n)) next-words (s .turnable) .0 (value-here ∙ z)
+
+    scanning-told : {b : Bool} → b ≡ turns-open x (e .weight) (e .value)
+        → cond b (Forced (wanted-word (x .up) (empty-word (x .kind)) (e .weight) (e .literal))) (scan-of x area n (words-from area (x .start) (x .merged) (i + 1)))
+        ≡ scan-of x area n (entry-words area (x .start) (x .merged))
+    unfolding scanned
+    scanning-told q = rw (q, sym value-here) (ap (scan-of x area n) (sym next-words) ∙ s .scans)
+
+    pub scanning-found : {b : Bool} {l : ℕ} → b ≡ turns-open x (e .weight) (e .value) → b ≡ true → l ≡ wanted-word (x .up) (empty-word (x .kind)) (e .weight) (e .literal)
+        → Forced l ≡ scan-of x area n (entry-words area (x .start) (x .merged))
+    scanning-found q t w = rw (t, ← w) at (scanning-told q)
+
+    pub scanning-next : {b : Bool} → b ≡ turns-open x (e .weight) (e .value) → b ≡ false → Scanning x area n (i + 1)
+    unfolding Turnable
+    scanning-next q f = record { turnable = subst (Turnable (x .kind) (x .up) (x .extreme) (value-at area n)) next-words (s .turnable) .1; scans = rw f at (scanning-told q) }

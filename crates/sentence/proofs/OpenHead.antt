@@ -27,7 +27,7 @@ use Rattle.sentence.proofs.Dues.{said-cond, and-false, passed-over, fre
 use Rattle.extremes.proofs.Sound.{sided, rule-words, Sound}
 use Rattle.sentence.proofs.Comparisons.{kept-at}
 
-module _ (n : ℕ) (k : Kind) (upper : Bool) (bound c head written : ℕ) (words : List ℕ) (sound : Sound n k bound c head words)
+module _ {n : ℕ} {k : Kind} {bound c head : ℕ} {words : List ℕ} (sound : Sound n k bound c head words) (upper : Bool) (written : ℕ)
     (v : ℕ → ℕ) (t : List ℤ) (sh : ShowsIn n v t) (z : v head ≡ 0) where
   abbrev R : Rule
   R = rule-words k upper bound c head written words
@@ -46,7 +46,7 @@ module _ (n : ℕ) (k : Kind) (upper : Bool) (bound c head written : ℕ) (words
   head-refuted l b e q =
       refuted-head R t l e (sound .headless)
       ∙ ap (λ x. not (Bool·beq x (compared R (extreme (towards (sided upper) x) R t)))) q
-      ∙ ap not (kept-at n k upper bound c head written words sound b v t sh)
+      ∙ ap not (kept-at sound upper written b v t sh)
 
   due-pos : due R t (pos head) ≡ not (at-extreme false)
   due-pos = free-due R t (pos head) head-free ∙ head-refuted (negℤ (pos head)) false (opposite-atom (pos head)) (opposite-truth (pos head) (sound .head-low) true)

@@ -37,15 +37,15 @@ turns-any Count u c w {xs} {ys} i high p q a b s =
 turns-any Max u c w i high p q a b s = tt
 turns-any Min u c w i high p q a b s = tt
 
-module _ (n : ℕ) (k : Kind) (upper : Bool) (bound c head written : ℕ) (words : List ℕ) (sound : Sound n k bound c head words) (u : Bool) (v : ℕ → ℕ) where
+module _ {n : ℕ} {k : Kind} {bound c head : ℕ} {words : List ℕ} (sound : Sound n k bound c head words) (u : Bool) (v : ℕ → ℕ) where
   turns-at : (w l : ℕ) → Member w l words → v (l / 2) ≡ 0 → Turns k u (extreme-word k u v c words) w
   turns-at w l e open-is =
       let f = member-proper k n e (sound .legal) in
       let g = wanted-is u (empty-word k) w l (f .literal) in
       let o = opposite-word (wanted-word u (empty-word k) w l) in
       turns-any k u c w (f .weight) (f .high)
-      (extreme-in n k upper bound c head written words sound u v)
-      (extreme-in n k upper bound c head written words sound u (put v o))
+      (extreme-in sound u v)
+      (extreme-in sound u (put v o))
       (sound .rooms v u) (sound .rooms (put v o) u)
       (put-swaps k n u v e (sound .legal) (sound .once) open-is o (nearest-word u w (empty-word k)) (opposite (wanted-word u (empty-word k) w l) (g .real) .atom ∙ g .atom) (g .loses))
 

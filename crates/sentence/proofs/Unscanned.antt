@@ -1,21 +1,23 @@
 -- What is known of a sentence before the scan says the same as the sentence: a case of the one for each case of the other.
-use mathlib.Core.Path.{_≡_, refl, sym, subst}
+use mathlib.Core.Path.{_≡_, refl, sym, ap, _∙_, subst}
 use mathlib.Core.Bool.{Bool, true, false, not, cond, _&&_}
 use mathlib.Core.List.{List}
-use Prim.Native.Nat.{ℕ, _+_, _*_, _%_}
+use Prim.Native.Nat.{ℕ, _%_}
 use native.Mathlib.Omega.{arith}
 use lib.Dec.{eqb}
-use Rattle.area.specs.Layout.{word, tag-at, merged-at, entry-at, entry-words, value-at, kind-of}
+use Rattle.area.specs.Layout.{head-at, kind-at, upper-at, merged-at, entry-at, entry-words, value-at, kind-of}
 use Rattle.extremes.specs.declared.Kind.{Kind}
 use Rattle.sentence.specs.declared.Said.{Said}
+use Rattle.sentence.specs.declared.Body.{Body}
 use Rattle.sentence.specs.declared.Known.{Known}
-use Rattle.sentence.specs.declared.Known.the-variants.{Silent, Conflict, Forced, Undecided}
+use Rattle.sentence.specs.declared.Known.the-variants.{Silent, Conflict, Undecided}
 use Rattle.extremes.specs.Stored.{Ready, ExtremesAre}
 use Rattle.sentence.specs.Sentence.{SaidIs}
 use Rattle.extremes.specs.Words.{meant}
-use Rattle.sentence.specs.Words.{second-word, limit-word, upwards, keeps, head-says, scanned, leaves-second, body-says}
+use Rattle.sentence.specs.Words.{second-word, limit-at, upwards, keeps, head-says, scanned, leaves-second, body-says}
 use Rattle.sentence.specs.Known.{head-known, body-known, known-says, KnownPlaced, KnownIs}
-use Rattle.extremes.proofs.Stored.{upper-in, entries-at}
+use Rattle.extremes.specs.Room.{Entries}
+use Rattle.extremes.proofs.Stored.{entries-at}
 use Rattle.sentence.proofs.Results.{turnable-at, said-fixed, said-open}
 
 -- ---- by cases of a test
@@ -38,53 +40,51 @@ module _ (w : List ℕ) (n : ℕ) where
       go true false false = refl
       go false b c = refl
 
-module _ (w : List ℕ) (n S b : ℕ) where
-  placed-cond : (c : Bool) (x y : Known) → KnownPlaced w n S b x → KnownPlaced w n S b y → KnownPlaced w n S b (cond c x y)
-  placed-cond true x y p q = p
-  placed-cond false x y p q = q
+-- the entries, where the words are those that were read
+pub entries-read : {w : List ℕ} {n S b kind start merged : ℕ} (k : Kind) → Ready w n S b → meant k ≡ kind-of kind → kind ≡ kind-at w b
+    → start ≡ entry-at w n S b → merged ≡ merged-at w b → Entries w start merged n
+entries-read k ready e q s m = rw (s, m) (entries-at k ready (e ∙ ap kind-of q))
 
 -- ---- the answers
 
-module _ (w : List ℕ) (n S b : ℕ) (ready : Ready w n S b) (least greatest : ℕ) (are : ExtremesAre w n S b (record { least = least; greatest = greatest })) where
+module _ {w : List ℕ} {n S b least greatest : ℕ} (ready : Ready w n S b) (are : ExtremesAre w n S b (record { least = least; greatest = greatest })) where
   abbrev given : Bool → ℕ
   given u = cond u greatest least
 
-  abbrev limit : ℕ
-  limit = limit-word (upper-in w b) (word w (b + 2))
+  -- what is known at the extreme in a direction, where the head is open
+  abbrev pub undecided : Bool → Bool
+  undecided u = not (keeps u (limit-at w b) (given u))
 
-  pub known-open : (upper : Bool) → upper-in w b ≡ upper → value-at w n (word w b) ≡ 0
-      → KnownIs w n S b (head-known (not (keeps (upwards upper false) limit (given (upwards upper false)))) (not (keeps (upwards upper true) limit (given (upwards upper true)))) (word w b))
-  known-open upper q z =
-      let holds = not (keeps (upwards upper false) limit (given (upwards upper false))) in
-      let fails = not (keeps (upwards upper true) limit (given (upwards upper true))) in
-      record {
-        said = subst (SaidIs w n S b) (sym (head-says-is w n holds fails (word w b))) (said-open w n S b ready least greatest are upper q z);
-        placed =
-            placed-cond w n S b holds (Forced (2 * word w b)) (cond fails (Forced (2 * word w b + 1)) Silent) (omega arith)
-            (placed-cond w n S b fails (Forced (2 * word w b + 1)) Silent (omega arith) tt);
-      }
+  pub known-open : (upper : Bool) → upper-at w b ≡ upper → value-at w n (head-at w b) ≡ 0
+      → KnownIs w n S b (head-known (undecided (upwards upper false)) (undecided (upwards upper true)) (head-at w b))
+  known-open upper q z = record {
+    said = subst (SaidIs w n S b) (sym (head-says-is w n (undecided (upwards upper false)) (undecided (upwards upper true)) (head-at w b))) (said-open ready are upper q z);
+    placed = placed (undecided (upwards upper false)) (undecided (upwards upper true));
+  }
+    where
+      placed : (x y : Bool) → KnownPlaced w n S b (head-known x y (head-at w b))
+      placed true y = omega arith
+      placed false true = omega arith
+      placed false false = tt
 
-  pub known-fixed : (k : Kind) → meant k ≡ kind-of (tag-at w b % 8) → (truth u : Bool) → ¬ (value-at w n (word w b) ≡ 0)
-      → eqb (value-at w n (word w b) % 2) 1 ≡ truth → upwards (upper-in w b) truth ≡ u
-      → KnownIs w n S b (body-known k u limit (given u) (given (not u)) (value-at w n) w (entry-at w n S b) (merged-at w b))
-  known-fixed k e truth u z q d =
-      let start = entry-at w n S b in
-      let count = merged-at w b in
-      let second = leaves-second k u && keeps u limit (second-word u (value-at w n) (entry-words w start count)) in
-      let scan : Known = Undecided (record { kind = k; up = u; limit = limit; extreme = given u; start = start; merged = count }) in
-      record {
-        said = subst (SaidIs w n S b) (sym (body-says-is w n k u limit (given u) (given (not u)) start count)) (said-fixed w n S b ready least greatest are k e truth u z q d);
-        placed =
-            placed-cond w n S b (keeps u limit (given u)) (cond (keeps u limit (given (not u))) Silent (cond second Silent scan)) Conflict
-            (placed-cond w n S b (keeps u limit (given (not u))) Silent (cond second Silent scan) tt
-            (placed-cond w n S b second Silent scan tt
-            (record {
-              start-is = refl;
-              merged-is = refl;
-              entries = entries-at w n S b ready k e;
-              turnable = turnable-at w n S b ready least greatest are k e u;
-            }))) tt;
-      }
+  pub known-fixed : (k : Kind) → meant k ≡ kind-of (kind-at w b) → (u : Bool) → ¬ (value-at w n (head-at w b) ≡ 0)
+      → upwards (upper-at w b) (eqb (value-at w n (head-at w b) % 2) 1) ≡ u
+      → KnownIs w n S b (body-known k u (limit-at w b) (given u) (given (not u)) (value-at w n) w (entry-at w n S b) (merged-at w b))
+  known-fixed k e u z d = record {
+    said = subst (SaidIs w n S b) (sym (body-says-is w n k u (limit-at w b) (given u) (given (not u)) (entry-at w n S b) (merged-at w b))) (said-fixed ready are k e u z d);
+    placed =
+        placed (keeps u (limit-at w b) (given u)) (keeps u (limit-at w b) (given (not u)))
+        (leaves-second k u && keeps u (limit-at w b) (second-word u (value-at w n) (entry-words w (entry-at w n S b) (merged-at w b))));
+  }
+    where
+      body : Body
+      body = record { kind = k; up = u; limit = limit-at w b; extreme = given u; start = entry-at w n S b; merged = merged-at w b }
+
+      placed : (x y s : Bool) → KnownPlaced w n S b (cond x (cond y Silent (cond s Silent (Undecided body))) Conflict)
+      placed true true s = tt
+      placed true false true = tt
+      placed true false false = record { start-is = refl; merged-is = refl; entries = entries-at k ready e; turnable = turnable-at ready are k e u }
+      placed false y s = tt
 
 -- ---- read off an answer
 

@@ -4,6 +4,7 @@ use mathlib.Core.List.{List, [], _∷_}
 use Prim.Native.Nat.{ℕ, _+_, _-_, _*_, _/_, _%_}
 use lib.Dec.{leb, eqb}
 use Rattle.numbers.specs.Words.{half}
+use Rattle.area.specs.Layout.{upper-at, bound-at}
 use Rattle.extremes.specs.declared.Kind.{Kind}
 use Rattle.extremes.specs.declared.Kind.the-variants.{Sum, Product, Count, Max, Min}
 use Rattle.extremes.specs.Words.{empty-word, furthest-word, nearest-word, contributions}
@@ -29,6 +30,10 @@ second-word up v words = second-best up (empty-word (best-kind up)) (empty-word 
 abbrev pub limit-word : Bool → ℕ → ℕ
 limit-word true bound = bound + 1
 limit-word false bound = bound
+
+-- of the sentence at b
+abbrev pub limit-at : List ℕ → ℕ → ℕ
+limit-at w b = limit-word (upper-at w b) (bound-at w b)
 
 -- the direction in which the comparison comes to have the truth b; `upper` says value ≤ bound
 abbrev pub upwards : Bool → Bool → Bool

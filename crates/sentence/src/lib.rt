@@ -2,14 +2,15 @@
 use extremes::Kind;
 ghost use mathlib.Core.Path.{_≡_};
 ghost use mathlib.Core.Bool.{true};
-ghost use Prim.Native.Nat.{_≤_, _<_};
+ghost use Prim.Native.Nat.{_+_, _≤_, _<_};
+ghost use lib.ListN.{length};
 ghost use Rattle.numbers.specs.Words.{half, top};
-ghost use Rattle.area.specs.Layout.{value-at, entry-words};
+ghost use Rattle.area.specs.Layout.{value-at, bound-at, entry-words};
 ghost use Rattle.extremes.specs.Stored.{Ready, ExtremesAre};
 ghost use Rattle.extremes.specs.Words.{empty-word};
 ghost use Rattle.extremes.specs.Room.{Entries};
 ghost use Rattle.sentence.specs.Sentence.{SaidIs};
-ghost use Rattle.sentence.specs.Words.{second-word, scanned, wanted-word};
+ghost use Rattle.sentence.specs.Words.{second-word, limit-at, scanned, wanted-word};
 ghost use Rattle.sentence.specs.Room.{Turns, Turnable};
 ghost use Rattle.sentence.specs.Known.{turns-open, head-known, body-known, KnownIs};
 
@@ -55,11 +56,8 @@ fn second(area: &[u64], up: bool, start: usize, count: usize, n: usize) -> u64
     let mut next = none;
     let mut i: usize = 0;
     while i < count {
-        let at = start + 2 * i;
-        let w = area[at];
-        let l = area[at + 1];
-        let v = area[n - 1 + (l / 2) as usize];
-        let x = steps::reach(up, none, w, l, v);
+        let e = extremes::entry_in(area, start, n, i);
+        let x = steps::reach(up, none, e.weight, e.literal, e.value);
         next = extremes::furthest(up, next, steps::nearest(up, best, x));
         best = extremes::furthest(up, best, x);
         i += 1;
@@ -98,12 +96,9 @@ fn scan(area: &[u64], body: Body, n: usize) -> Said
     let count = body.merged;
     let mut i: usize = 0;
     while i < count {
-        let at = start + 2 * i;
-        let w = area[at];
-        let l = area[at + 1];
-        let v = area[n - 1 + (l / 2) as usize];
-        if entry_turns(body, w, v) {
-            return Said::Forced(entry_wanted(body, w, l));
+        let e = extremes::entry_in(area, start, n, i);
+        if entry_turns(body, e.weight, e.value) {
+            return Said::Forced(entry_wanted(body, e.weight, e.literal));
         }
         i += 1;
     }
@@ -160,18 +155,28 @@ fn of_head(holds: bool, fails: bool, head: u64) -> Known
     Known::Silent
 }
 
+// The first word on the far side of the comparison of the sentence at `base`.
+fn limit_at(area: &[u64], base: usize) -> u64
+    requires { ⌜ (base + 8 ≤ length (now area)) × (bound-at (now area) base < top) ⌝ }
+    ensures { λ r. ⌜ r ≡ limit-at (now (area .entry)) base ⌝ }
+{
+    let bound = area::bound_at(area, base);
+    if area::upper_at(area, base) {
+        return bound + 1;
+    }
+    bound
+}
+
 // What that sentence says before its entries are scanned, where its extremes are known.
 pub fn look(area: &[u64], n: usize, count: usize, base: usize, least: u64, greatest: u64) -> Known
     requires { ⌜ Ready (now area) n count base ⌝ }
     requires { ⌜ ExtremesAre (now area) n count base (record { least = least; greatest = greatest }) ⌝ }
     ensures { λ r. ⌜ KnownIs (now (area .entry)) n count base r ⌝ }
 {
-    let head = area[base];
-    let tag = area[base + 1];
-    let bound = area[base + 2];
-    let upper = tag / 8 % 2 == 1;
-    let limit = if upper { bound + 1 } else { bound };
-    let v = area[n - 1 + head as usize];
+    let head = area::head_at(area, base);
+    let upper = area::upper_at(area, base);
+    let limit = limit_at(area, base);
+    let v = area::value_at(area, n, head as usize);
     if v == 0 {
         if upper {
             return of_head(
@@ -186,12 +191,10 @@ pub fn look(area: &[u64], n: usize, count: usize, base: usize, least: u64, great
             head,
         );
     }
-    let kind = extremes::kind_of(tag % 8);
-    let start = 4 * n + 8 * count + 2 * area[base + 6] as usize;
-    let merged = (area[base + 7] / 65536) as usize;
-    let truth = v % 2 == 1;
-    let up = if upper { !truth } else { truth };
-    if up {
+    let kind = extremes::kind_of(area::kind_at(area, base));
+    let start = area::entry_at(area, n, count, base);
+    let merged = area::merged_at(area, base);
+    if steps::upwards(upper, v % 2 == 1) {
         return of_body(area, kind, true, limit, greatest, least, start, merged, n);
     }
     of_body(area, kind, false, limit, least, greatest, start, merged, n)
@@ -204,23 +207,18 @@ pub fn settled(area: &[u64], n: usize, count: usize, base: usize, least: u64, gr
     requires { ⌜ ExtremesAre (now area) n count base (record { least = least; greatest = greatest }) ⌝ }
     ensures { λ r. ⌜ (r ≡ true → SaidIs (now (area .entry)) n count base Said.Silent) ⌝ }
 {
-    let head = area[base];
-    let tag = area[base + 1];
-    let bound = area[base + 2];
-    let upper = tag / 8 % 2 == 1;
-    let limit = if upper { bound + 1 } else { bound };
-    let v = area[n - 1 + head as usize];
+    let limit = limit_at(area, base);
     let sure = limit <= least;
     let possible = limit <= greatest;
+    let head = area::head_at(area, base);
+    let v = area::value_at(area, n, head as usize);
     if v == 0 {
         if sure {
             return false;
         }
         return possible;
     }
-    let truth = v % 2 == 1;
-    let up = if upper { !truth } else { truth };
-    if up {
+    if steps::upwards(area::upper_at(area, base), v % 2 == 1) {
         if sure {
             return possible;
         }

@@ -4,7 +4,7 @@ ghost use mathlib.Core.Path.{_≡_};
 ghost use Prim.Native.Nat.{_≤_, _<_};
 ghost use Rattle.numbers.specs.Words.{top};
 ghost use Rattle.extremes.specs.Words.{nearest-word, reach-word};
-ghost use Rattle.sentence.specs.Words.{keeps, shifted, scaled, turns-word, wanted-word, leaves-second};
+ghost use Rattle.sentence.specs.Words.{upwards, keeps, shifted, scaled, turns-word, wanted-word, leaves-second};
 ghost use Rattle.sentence.specs.Room.{Turns};
 
 const HALF: u64 = 4_611_686_018_427_387_904;
@@ -40,6 +40,13 @@ pub fn keep(up: bool, limit: u64, e: u64) -> bool
         return limit <= e;
     }
     !(limit <= e)
+}
+
+// The direction in which the comparison comes to have the truth.
+pub fn upwards(upper: bool, truth: bool) -> bool
+    ensures { λ r. ⌜ r ≡ upwards upper truth ⌝ }
+{
+    if upper { !truth } else { truth }
 }
 
 fn shift(up: bool, e: u64, w: u64) -> u64

@@ -10,12 +10,12 @@ use Rattle.numbers.specs.Words.{top, word as word-of, unword}
 use Rattle.numbers.proofs.Words.{word-unword}
 use Rattle.meaning.specs.Merge.{Rule}
 use Rattle.meaning.specs.Computed.{Standing, free, fixed, standing, extreme}
-use Rattle.area.specs.Layout.{word, tag-at, written-at, merged-at, entry-at, entry-words, kind-of, rule-at}
+use Rattle.area.specs.Layout.{word, tag-at, upper-at, written-at, merged-at, entry-at, entry-words, kind-of, rule-at}
 use Rattle.extremes.specs.Stored.{standing-word, Ready}
 use Rattle.extremes.specs.Words.{meant, extreme-word}
 use Rattle.extremes.proofs.Values.{direction, in-top}
 use Rattle.extremes.proofs.Sound.{extreme-in, extreme-means}
-use Rattle.extremes.proofs.Stored.{upper-in, rule-is, sound-at}
+use Rattle.extremes.proofs.Stored.{rule-is, sound-at}
 use Rattle.extremes.proofs.Values.{coded, meant-coded}
 
 -- a value word for each standing, so that some values show any trail
@@ -39,10 +39,10 @@ module _ (w : List ℕ) (n S b : ℕ) (ready : Ready w n S b) where
       let sound = sound-at w n S b ready k e in
       let v : ℕ → ℕ = λ a. value-of (standing t a) in
       let x = extreme-word k u v (word w (b + 3)) words in
-      let high : x ≤ top = in-top k x (extreme-in n k (upper-in w b) (word w (b + 2)) (word w (b + 3)) (word w b) (written-at w b) words sound u v) in
+      let high : x ≤ top = in-top k x (extreme-in sound u v) in
       let is : extreme (direction u) (rule-at w n S b) t ≡ unword x =
       sym (ap {A = Rule} (λ r. extreme (direction u) r t) (rule-is w n S b k e))
-      ∙ extreme-means n k (upper-in w b) (word w (b + 2)) (word w (b + 3)) (word w b) (written-at w b) words sound u v t (λ a l m. value-shows (standing t a)) in
+      ∙ extreme-means sound (upper-at w b) (written-at w b) u v t (λ a l m. value-shows (standing t a)) in
       ap {A = Extended} (λ y. unword (word-of y)) is ∙ ap {A = ℕ} unword (word-unword x high) ∙ sym is
 
   pub extreme-back : (d : Direction) (t : List ℤ) → unword (word-of (extreme d (rule-at w n S b) t)) ≡ extreme d (rule-at w n S b) t

@@ -4,16 +4,8 @@ use borrow.Author.Needs.{needs}
 use Rattle.sentence.proofs.steps.reach.Statement.{statement}
 use Rattle.sentence.proofs.steps.reach.Tie as tie
 
-returns : tie.Need-returns
-returns c = rw (eq-eqb _ _ (c .before .if1 .taken)) (c .furthest .ensures)
-
-returns-2 : tie.Need-returns-2
-returns-2 c = rw (ne-eqb _ _ (c .before .if1 .left), eq-eqb _ _ (c .if2 .taken))
-
-returns-3 : tie.Need-returns-3
-returns-3 c = rw (ne-eqb _ _ (c .before .if1 .left), ne-eqb _ _ (c .if2 .left))
-
 pub reach-spec : {M : Type 1} → statement M
 reach-spec = tie.close
     (tie.spec
-    (λ c κs. search needs) returns returns-2 returns-3)
+    (λ c κs. search needs) (λ c. rw (eq-eqb _ _ (c .before .if1 .taken)) (c .furthest .ensures))
+    (λ c. rw (ne-eqb _ _ (c .before .if1 .left), eq-eqb _ _ (c .if2 .taken))) (λ c. rw (ne-eqb _ _ (c .before .if1 .left), ne-eqb _ _ (c .if2 .left))))
