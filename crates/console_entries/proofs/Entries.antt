@@ -5,8 +5,11 @@ use Prim.Native.Nat.{ℕ, suc, _+_, _-_, _<_, _≤_}
 use native.Mathlib.Numerals.{add-one}
 use native.Mathlib.Omega.{arith}
 use lib.IntN.{ℤ}
-use lib.ListN.{length, drop, set, length-set}
+use lib.ListN.{length, take, drop, set, length-set}
 use lib.Seq.{drop-drop, drop-nil, sets, set-out}
+use Rattle.console_words.specs.declared.Next.{Next}
+use Rattle.console_words.specs.declared.Next.the-variants.{Word, End}
+use Rattle.console_words.specs.declared.Signed.{Signed}
 use Rattle.console_words.specs.declared.Signed.the-variants.{Integer, NotInteger}
 use Rattle.console_words.specs.declared.Unsigned.the-variants.{Natural, NotNatural}
 use Rattle.console_entries.specs.Entries.{entries-of, all-entries, entry-count, weights-in, literals-in}
@@ -14,7 +17,9 @@ use Rattle.console_entries.specs.declared.Taken.{Taken}
 use Rattle.console_entries.specs.declared.Taken.the-variants as taken
 use Rattle.console_entries.specs.Cursor.{EntryAt, NoEntry, NextEntry}
 use Rattle.console_words.specs.Numbers.{signed-of}
-use Rattle.console_words.specs.Words.{Word, words}
+use Rattle.console_words.specs.Cursor.{NextWord}
+use Rattle.console_words.specs.Words.{words, Word as Bytes}
+use Rattle.console_words.proofs.Cursor.{found, ended, then}
 use Rattle.meaning.specs.Meaning.{Entry}
 
 -- ---- the next entry, read off the answer
@@ -30,28 +35,41 @@ nothing-found line at f e = subst (λ (t : Taken). NextEntry line at t) e f
 
 -- ---- by the next two words
 
-module _ (line : List ℕ) (at : ℕ) {w : Word} where
-  pub no-pair : words (drop at line) ≡ w ∷ [] → NoEntry line at
-  unfolding entries-of all-entries
-  no-pair e = record { entries-are = ap entries-of e; all-are = ap all-entries e }
+module _ (line : List ℕ) (at : ℕ) {n : Next} (first : NextWord line at n) where
+  pub no-entry : n ≡ End → words (drop at line) ≡ []
+  no-entry e = ended line at first e
 
-  module _ {l : Word} {ws : List Word} (e : words (drop at line) ≡ w ∷ l ∷ ws) where
-    pub no-weight : signed-of w ≡ NotInteger → NoEntry line at
+  module _ {a b : ℕ} (e : n ≡ Word a b) {m : Next} (second : NextWord line b m) where
+    pub no-pair : m ≡ End → NoEntry line at
     unfolding entries-of all-entries
-    no-weight p = record { entries-are = ap entries-of e ∙ rw p; all-are = ap all-entries e ∙ rw p }
+    no-pair p = let q = then (found first e) (ended line b second p) in record { entries-are = ap entries-of q; all-are = ap all-entries q }
 
-    pub no-literal : {x : ℤ} → signed-of w ≡ Integer x → signed-of l ≡ NotInteger → NoEntry line at
-    unfolding entries-of all-entries
-    no-literal p q = record { entries-are = ap entries-of e ∙ rw (p, q); all-are = ap all-entries e ∙ rw (p, q) }
+    module _ {c to : ℕ} (p : m ≡ Word c to) {u : Signed} (qu : u ≡ signed-of (take (b - a) (drop a line))) where
+      both : words (drop at line) ≡ take (b - a) (drop a line) ∷ take (to - c) (drop c line) ∷ words (drop to line)
+      both = then (found first e) (found second p .words-are)
 
-  pub entry-here : {l : Word} {to : ℕ} {x y : ℤ} → words (drop at line) ≡ w ∷ l ∷ words (drop to line) → at < to → to ≤ length line →
-      signed-of w ≡ Integer x → signed-of l ≡ Integer y → EntryAt line at x y to
-  unfolding entries-of all-entries
-  entry-here e some fits p q = record { some = some; fits = fits; entries-are = ap entries-of e ∙ rw (p, q); all-are = ap all-entries e ∙ rw (p, q) }
+      pub no-weight : u ≡ NotInteger → NoEntry line at
+      unfolding entries-of all-entries
+      no-weight h = record { entries-are = ap entries-of both ∙ rw (sym qu ∙ h); all-are = ap all-entries both ∙ rw (sym qu ∙ h) }
+
+      module _ {x : ℤ} (h : u ≡ Integer x) {v : Signed} (qv : v ≡ signed-of (take (to - c) (drop c line))) where
+        pub no-literal : v ≡ NotInteger → NoEntry line at
+        unfolding entries-of all-entries
+        no-literal k = record { entries-are = ap entries-of both ∙ rw (sym qu ∙ h, sym qv ∙ k); all-are = ap all-entries both ∙ rw (sym qu ∙ h, sym qv ∙ k) }
+
+        pub entry-here : {y : ℤ} → v ≡ Integer y → EntryAt line at x y to
+        unfolding entries-of all-entries
+        entry-here k =
+            record {
+              some = omega (arith, found first e .begins, found first e .some, found second p .begins, found second p .some);
+              fits = found second p .fits;
+              entries-are = ap entries-of both ∙ rw (sym qu ∙ h, sym qv ∙ k);
+              all-are = ap all-entries both ∙ rw (sym qu ∙ h, sym qv ∙ k);
+            }
 
 -- ---- the words behind the first ones
 
-pub words-left : (line : List ℕ) (at k : ℕ) {w : Word} {ws : List Word} → drop k (words line) ≡ words (drop at line) →
+pub words-left : (line : List ℕ) (at k : ℕ) {w : Bytes} {ws : List Bytes} → drop k (words line) ≡ words (drop at line) →
     words (drop at line) ≡ w ∷ ws → drop (suc k) (words line) ≡ ws
 words-left line at k e p =
     let one : suc k ≡ k + 1 = omega arith in

@@ -1,7 +1,7 @@
 // The names in a console's line: of commands, of kinds and of sides.
 use console_words::Unsigned;
 ghost use mathlib.Core.Path.{_≡_};
-ghost use Rattle.console_names.specs.Names.{name-of, kind-of, side-of};
+ghost use Rattle.console_names.specs.Names.{later-name, name-of, kind-of, side-of};
 
 // The commands of one word, those about a literal, and those about a level or a sentence.
 pub enum Bare {
@@ -32,24 +32,10 @@ pub enum Name {
     Unknown,
 }
 
-pub fn read_name(word: &[u8]) -> Name
-    ensures { λ r. ⌜ r ≡ name-of (now (word .entry)) ⌝ }
+// The later names; `read_name` has tried the others.
+fn later_name(word: &[u8]) -> Name
+    ensures { λ r. ⌜ r ≡ later-name (now (word .entry)) ⌝ }
 {
-    if console_words::is_same(word, b"plan") {
-        return Name::Plan;
-    }
-    if console_words::is_same(word, b"rule") {
-        return Name::Rule;
-    }
-    if console_words::is_same(word, b"give") {
-        return Name::Literal(OfLiteral::Give);
-    }
-    if console_words::is_same(word, b"open") {
-        return Name::Bare(Bare::Open);
-    }
-    if console_words::is_same(word, b"propagate") {
-        return Name::Bare(Bare::Propagate);
-    }
     if console_words::is_same(word, b"back") {
         return Name::Number(OfNumber::Back);
     }
@@ -69,6 +55,27 @@ pub fn read_name(word: &[u8]) -> Name
         return Name::Bare(Bare::Trail);
     }
     Name::Unknown
+}
+
+pub fn read_name(word: &[u8]) -> Name
+    ensures { λ r. ⌜ r ≡ name-of (now (word .entry)) ⌝ }
+{
+    if console_words::is_same(word, b"plan") {
+        return Name::Plan;
+    }
+    if console_words::is_same(word, b"rule") {
+        return Name::Rule;
+    }
+    if console_words::is_same(word, b"give") {
+        return Name::Literal(OfLiteral::Give);
+    }
+    if console_words::is_same(word, b"open") {
+        return Name::Bare(Bare::Open);
+    }
+    if console_words::is_same(word, b"propagate") {
+        return Name::Bare(Bare::Propagate);
+    }
+    later_name(word)
 }
 
 pub fn read_kind(word: &[u8]) -> Unsigned

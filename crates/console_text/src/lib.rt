@@ -10,6 +10,7 @@ ghost use mathlib.Core.Path.{_≡_};
 ghost use Prim.Native.Nat.{_≤_};
 ghost use lib.ListN.{length, drop};
 ghost use Rattle.console_words.specs.Words.{words};
+ghost use Rattle.console_text.specs.Rules.{FourWords};
 ghost use Rattle.console_text.specs.Command.{only-unsigned, only-signed, plan-of, rule-of, by-name, command-of};
 
 // A rule without its entries: how many it has.
@@ -31,6 +32,12 @@ pub enum Command {
     Bare(Bare),
     Literal(OfLiteral, i64),
     Number(OfNumber, u64),
+}
+
+// Where the first four words of a rule behind its name start and end.
+enum Four {
+    Words(usize, usize, usize, usize, usize, usize, usize, usize),
+    Missing,
 }
 
 // ---- arguments: the words behind `at`
@@ -77,36 +84,56 @@ fn read_plan(line: &[u8], at: usize) -> Command
     Command::Plan(atoms, sentences)
 }
 
+// Where a rule's head, kind, side and bound stand, behind its name.
+fn four_words(line: &[u8], at: usize) -> Four
+    requires { ⌜ at ≤ length (now line) ⌝ }
+    ensures { λ r. ⌜ FourWords (now (line .entry)) at r ⌝ }
+{
+    let Next::Word(head_from, head_to) = console_words::next_word(line, at) else {
+        return Four::Missing;
+    };
+    let Next::Word(kind_from, kind_to) = console_words::next_word(line, head_to) else {
+        return Four::Missing;
+    };
+    let Next::Word(side_from, side_to) = console_words::next_word(line, kind_to) else {
+        return Four::Missing;
+    };
+    let Next::Word(from, to) = console_words::next_word(line, side_to) else {
+        return Four::Missing;
+    };
+    Four::Words(
+        head_from,
+        head_to,
+        kind_from,
+        kind_to,
+        side_from,
+        side_to,
+        from,
+        to,
+    )
+}
+
 // The words of a rule behind its name.
 fn read_rule(line: &[u8], at: usize) -> Command
     requires { ⌜ at ≤ length (now line) ⌝ }
     ensures { λ r. ⌜ r ≡ rule-of (words (drop at (now (line .entry)))) ⌝ }
 {
-    let Next::Word(head_from, head_to) = console_words::next_word(line, at) else {
+    let Four::Words(a, b, c, d, e, f, g, to) = four_words(line, at) else {
         return Command::Wrong;
     };
-    let Next::Word(kind_from, kind_to) = console_words::next_word(line, head_to) else {
+    let Signed::Integer(head) = console_words::read_signed(&line[a..b]) else {
         return Command::Wrong;
     };
-    let Next::Word(side_from, side_to) = console_words::next_word(line, kind_to) else {
+    let Unsigned::Natural(kind) = console_names::read_kind(&line[c..d]) else {
         return Command::Wrong;
     };
-    let Next::Word(bound_from, bound_to) = console_words::next_word(line, side_to) else {
+    let Unsigned::Natural(side) = console_names::read_side(&line[e..f]) else {
         return Command::Wrong;
     };
-    let Signed::Integer(head) = console_words::read_signed(&line[head_from..head_to]) else {
+    let Signed::Integer(bound) = console_words::read_signed(&line[g..to]) else {
         return Command::Wrong;
     };
-    let Unsigned::Natural(kind) = console_names::read_kind(&line[kind_from..kind_to]) else {
-        return Command::Wrong;
-    };
-    let Unsigned::Natural(side) = console_names::read_side(&line[side_from..side_to]) else {
-        return Command::Wrong;
-    };
-    let Signed::Integer(bound) = console_words::read_signed(&line[bound_from..bound_to]) else {
-        return Command::Wrong;
-    };
-    let Unsigned::Natural(entries) = console_entries::count_entries(line, bound_to) else {
+    let Unsigned::Natural(entries) = console_entries::count_entries(line, to) else {
         return Command::Wrong;
     };
     Command::Rule(Rule {

@@ -1,47 +1,14 @@
 -- A word, and none behind it.
-use mathlib.Core.Path.{sym, ap, _∙_}
 use borrow.Author.Needs.{needs}
-use Rattle.console_text.specs.Command.{only-unsigned}
-use Rattle.console_words.specs.Cursor.{WordAt}
-use Rattle.console_words.proofs.Cursor.{found, ended, then}
+use Rattle.console_words.proofs.Cursor.{word-some, word-fits}
+use Rattle.console_text.proofs.Cursor.{unsigned-none, unsigned-two, unsigned-one}
 use Rattle.console_text.proofs.only_unsigned.Statement.{statement}
 use Rattle.console_text.proofs.only_unsigned.Tie as tie
-
-first : (c : tie.After-known-told) →
-    WordAt (c .before .before .before .before .before .args .line .now) (c .before .before .before .before .before .args .at)
-    (c .before .from .given .0 .0) (c .before .from .given .0 .1 .0)
-first c = found (c .before .before .before .next-word .ensures) (c .before .from .given .1)
-
-returns : tie.Need-returns
-returns c = let s = c .before .before .before .before in
-    sym (ap only-unsigned (ended (s .args .line .now) (s .args .at) (c .before .before .next-word .ensures) (c .enum-told .given .1)))
-
-next-word-requires-2 : tie.Need-next-word-requires-2
-next-word-requires-2 c κs = let w = first c in search needs
-
-returns-2 : tie.Need-returns-2
-returns-2 c = let w = first (c .before .before .before) in
-    let v = found (c .before .before .next-word2 .ensures) (c .enum-told3 .given .1) in sym (ap only-unsigned (then w (v .words-are)))
-
-sub-read-unsigned : tie.Need-sub-read-unsigned
-sub-read-unsigned c = let w = first (c .before .before .before) in search needs
-
-part-read-unsigned-start : tie.Need-part-read-unsigned-start
-part-read-unsigned-start c = let w = first (c .before .before .before) in search needs
-
-part-read-unsigned-end : tie.Need-part-read-unsigned-end
-part-read-unsigned-end c = let w = first (c .before .before .before) in search needs
-
-returns-3 : tie.Need-returns-3
-returns-3 c = let nw2 = c .before .before .before .before in let k5 = nw2 .before in let from = k5 .before in
-    let s = from .before .before .before .before in
-    let w = first k5 in
-    let e = ended (s .args .line .now) (from .from .given .0 .1 .0) (nw2 .next-word2 .ensures) (c .before .before .enum-told2 .given .1) in
-    c .read-unsigned .ensures ∙ sym (ap only-unsigned (then w e))
 
 pub only-unsigned-spec : {M : Type 1} → statement M
 only-unsigned-spec =
     tie.close
     (tie.spec
-    (λ c κs. search needs) (λ c. search needs) (λ c. search needs) returns next-word-requires-2 (λ c. search needs) (λ c. search needs) returns-2
-    sub-read-unsigned part-read-unsigned-start part-read-unsigned-end (λ c κs. search needs) returns-3)
+    (λ c κs. search needs) (λ c. search needs) (λ c. search needs) (λ c. search unsigned-none) (λ c κs. search word-fits) (λ c. search needs)
+    (λ c. search needs) (λ c. search unsigned-two) (λ c. search word-some) (λ c. search word-some) (λ c. search word-fits) (λ c κs. search needs)
+    (λ c. search unsigned-one))
