@@ -1,7 +1,7 @@
 -- The test of refusal 10 by the size of a literal: it fails just where the size is 1 to n.
-use mathlib.Core.Path.{_≡_, sym, _∙_, ap, ap₂, subst}
-use mathlib.Core.Bool.{Bool, true, false, not, _&&_}
-use Prim.Native.Nat.{ℕ, _<_, _≤_}
+use mathlib.Core.Path.{_≡_, refl, sym, _∙_, ap, ap₂, subst}
+use mathlib.Core.Bool.{Bool, true, false, not, _&&_, true≢false}
+use Prim.Native.Nat.{ℕ, zero, suc, _<_, _≤_}
 use native.Mathlib.Omega.{arith}
 use lib.IntN.{ℤ}
 use lib.Dec.{leb}
@@ -10,7 +10,7 @@ use mir.Syntax.{w64}
 use mir.Val.{SFits, toZ, ofZ}
 use mir.ValLaws.{toZ-ofZ}
 use Rattle.meaning.specs.Meaning.{atom}
-use Rattle.literals.specs.Literals.{unknown, AtomOf}
+use Rattle.literals.specs.Literals.{unknown, IsAtom, AtomOf}
 
 module _ (n : ℕ) (l : ℤ) where
   pub unknown-zero : atom l ≡ 0 → unknown n l ≡ true
@@ -34,3 +34,8 @@ module _ (n : ℕ) (l : ℤ) where
 -- what is told of the bits of a caller's literal, read back, is told of the literal
 pub told-atom : {n r : ℕ} (l : ℤ) → SFits w64 l → AtomOf n (toZ w64 (ofZ w64 l)) r → AtomOf n l r
 told-atom {n} {r} l f a = subst (λ (z : ℤ). AtomOf n z r) (toZ-ofZ w64 l f) a
+
+-- a literal that passes the test has its atom
+pub known-atom : {n : ℕ} {l : ℤ} (r : ℕ) → AtomOf n l r → unknown n l ≡ false → IsAtom n l r
+known-atom zero a e = absurd (true≢false (sym (a .none refl) ∙ e))
+known-atom (suc r) a e = a .some (λ z. let b : ⊥ = omega arith in b)
