@@ -28,15 +28,7 @@ module _ (lim : Limits) (w : List ℕ) (c : Counters) (h : Whole lim w c) where
 
   -- nothing moved
   pub stays : (a : Answer) → Moved lim w w c (unchanged (area-state lim w) a)
-  stays a = record {
-    whole = h;
-    atoms = refl;
-    theory = refl;
-    level = refl;
-    rows = refl;
-    size = refl;
-    rest = refl;
-  }
+  stays a = record { whole = h; atoms = refl; theory = refl; level = refl; rows = refl; size = refl; rest = refl }
 
 abbrev state : Limits → ℕ → List Rule → ℕ → List Row → State
 state lim n rs v rows = record { broken = false; atoms = n; levels = lim .levels; sentences = judged-all rs; level = v; rows = rows }
@@ -75,12 +67,4 @@ moved-here {lim} {w} {w′} m a = record {
 
 -- with another answer
 pub moved-with : {lim : Limits} {w w′ : List ℕ} {c′ : Counters} {o : Outcome} → Moved lim w w′ c′ o → (a : Answer) → Moved lim w w′ c′ (record { answer = a; level = o .level; rows = o .rows })
-moved-with m a = record {
-  whole = m .whole;
-  atoms = m .atoms;
-  theory = m .theory;
-  level = m .level;
-  rows = m .rows;
-  size = m .size;
-  rest = m .rest;
-}
+moved-with m a = record { whole = m .whole; atoms = m .atoms; theory = m .theory; level = m .level; rows = m .rows; size = m .size; rest = m .rest }

@@ -1,40 +1,20 @@
 -- One literal of the list: of no atom it is what 10 looks for; on the trail it is passed; open it is tried, or ends the search at the highest
 -- level. Each is one case of `any` or of `trying`, told of the list from a place on.
-use mathlib.Core.Path.{_≡_, refl, sym, ap, ap₂, _∙_, subst}
-use mathlib.Core.Bool.{Bool, true, false, not, cond, _&&_, true≢false}
+use mathlib.Core.Path.{_≡_, refl, sym, ap, ap₂, _∙_}
+use mathlib.Core.Bool.{Bool, true, false, cond, true≢false}
 use mathlib.Core.List.{List, [], _∷_}
 use Prim.Native.Nat.{ℕ, zero, suc, _<_, _≤_}
 use native.Mathlib.Omega.{arith}
 use lib.ListN.{length, drop, drop-of-length-le}
 use lib.Seq.{drop-cons}
 use lib.IntN.{ℤ, pos}
-use lib.Dec.{T, leb}
-use borrow.Author.Tests.{le-leb, lt-leb}
+use lib.Dec.{leb}
 use Rattle.meaning.specs.Meaning.{atom}
+use Rattle.literals.specs.Literals.{unknown}
 use Rattle.book.specs.Rows.{any}
 use Rattle.book.specs.Table.{State, on-trail, End, end, turning, tried, trying}
-use Rattle.book.specs.Sound.{Within}
-use Rattle.book.proofs.Keeps.{atom-told}
 use Rattle.search.specs.Search.{AllKnown}
 use Rattle.search.specs.Turn.{nth}
-
--- ---- the test of the atom
-
-abbrev pub unknown : ℕ → ℤ → Bool
-unknown n l = not (leb 1 (atom l) && leb (atom l) n)
-
-module _ (n : ℕ) (l : ℤ) where
-  pub atom-zero : atom l ≡ 0 → unknown n l ≡ true
-  atom-zero e = ap {A = Bool} (λ b. not (b && leb (atom l) n)) (lt-leb 1 (atom l) (omega arith))
-
-  pub atom-high : 1 ≤ atom l → n < atom l → unknown n l ≡ true
-  atom-high low h = ap₂ {A = Bool} {B = Bool} (λ x y. not (x && y)) (le-leb 1 (atom l) low) (lt-leb (atom l) n h)
-
-  pub atom-known : 1 ≤ atom l → atom l ≤ n → unknown n l ≡ false
-  atom-known low high = ap₂ {A = Bool} {B = Bool} (λ x y. not (x && y)) (le-leb 1 (atom l) low) (le-leb (atom l) n high)
-
-  pub atom-within : unknown n l ≡ false → Within n (atom l)
-  atom-within e = atom-told n l (subst (λ (b : Bool). T (not b)) (sym e) tt)
 
 -- ---- 10, from a place of the list on
 

@@ -39,8 +39,7 @@ module _ (lim : Limits) (w : List ℕ) where
 
   module _ (w₁ : List ℕ) (c c₁ : Counters) (p : Paper) (h : Whole lim w c) (a : Acts lim w w₁ c c₁ open-level p) where
     code-of : (b : Bool) → highest ≡ b → p .code ≡ paper (replied b .answer) .code
-    code-of b e =
-        ap (λ (x : Paper). x .code) (a .answer .told h) ∙ ap (λ (o : Outcome). paper (o .answer) .code) (open-is ∙ ap {A = Bool} replied e)
+    code-of b e = ap (λ (x : Paper). x .code) (a .answer .told h) ∙ ap (λ (o : Outcome). paper (o .answer) .code) (open-is ∙ ap {A = Bool} replied e)
 
     by-code : (b : Bool) → highest ≡ b → (p .code ≡ 0 → highest ≡ false) × (¬ (p .code ≡ 0) → highest ≡ true)
     by-code true e = ((λ z. let k = code-of true e in let b : ⊥ = omega (arith, k, z) in absurd b), λ _. e)

@@ -1,11 +1,10 @@
 -- The paper's numbers for the search's answer, and the test that decides refusal 10 for its whole list.
 use mathlib.Core.Path.{_≡_}
-use mathlib.Core.Bool.{false, not, _&&_}
+use mathlib.Core.Bool.{false}
 use mathlib.Core.List.{List}
 use Prim.Native.Nat.{ℕ}
 use lib.IntN.{ℤ, pos}
-use lib.Dec.{leb}
-use Rattle.meaning.specs.Meaning.{atom}
+use Rattle.literals.specs.Literals.{unknown}
 use Rattle.book.specs.Rows.{any}
 use Rattle.book.specs.Table.{Paper}
 use Rattle.search.specs.declared.Searched.{Searched}
@@ -16,4 +15,4 @@ searched-paper r =
 
 -- no literal of the list is 0 or of no atom: the table's test for 10, at a state of n atoms
 abbrev pub AllKnown : ℕ → List ℤ → Type 0
-AllKnown n ls = any (λ l. not (leb 1 (atom l) && leb (atom l) n)) ls ≡ false
+AllKnown n ls = any (unknown n) ls ≡ false

@@ -43,11 +43,7 @@ pub fn all_known(literals: &[i64], n: u64) -> bool
 {
     let mut k: usize = 0;
     while k < literals.len() {
-        let size = signed::size(literals[k]);
-        if size == 0 {
-            return false;
-        }
-        if size > n {
+        if literals::atom_of(literals[k], n as usize) == 0 {
             return false;
         }
         k += 1;
@@ -60,11 +56,11 @@ fn next_open(area: &[u64], literals: &[i64], start: usize) -> usize
     requires { ⌜ NextAsked (now area) (now literals) start ⌝ }
     ensures { λ r. ⌜ ((lim : Limits) (c : book.Counters) → Whole lim (now (area .entry)) c → NextIs (area-state lim (now (area .entry))) (now (literals .entry)) start r) ⌝ }
 {
-    let n = (area[0] % 65536) as usize;
+    let n = area::atoms_of(area);
     let mut j = start;
     while j < literals.len() {
-        let size = signed::size(literals[j]);
-        if area[n - 1 + size as usize] == 0 {
+        let atom = literals::atom_of(literals[j], n);
+        if area::value_at(area, n, atom) == 0 {
             return j;
         }
         j += 1;
@@ -162,7 +158,7 @@ pub fn search_within(
     if !whole::is_whole(area, lim, counters.length, counters.level.0) {
         return unopposed(9, 0, 0, counters);
     }
-    let n = area[0] % 65536;
+    let n = area::atoms_of(area) as u64;
     if !all_known(literals, n) {
         return unopposed(10, 0, 0, counters);
     }

@@ -4,14 +4,12 @@ use mathlib.Core.Bool.{true≢false}
 use native.Mathlib.Omega.{arith}
 use Prim.Native.Nat.{ℕ, suc, _+_, _-_}
 use lib.ListN.{length, drop}
-use lib.IntN.{ℤ}
-use mir.Syntax.{w64}
-use mir.ValLaws.{toZ-ofZ}
 use Rattle.decide.proofs.Tells.{told-yes, told-no}
-use Rattle.meaning.specs.Meaning.{atom}
+use Rattle.literals.specs.Literals.{unknown, AtomOf}
+use Rattle.literals.proofs.Atoms.{told-atom}
 use Rattle.book.specs.Rows.{any}
 use Rattle.search.specs.Turn.{nth}
-use Rattle.search.proofs.Passing.{unknown, atom-zero, atom-high, atom-known, any-past, any-found, any-passed}
+use Rattle.search.proofs.Passing.{any-past, any-found, any-passed}
 use borrow.Author.Needs.{needs}
 use Rattle.search.proofs.all_known.Statement.{statement}
 use Rattle.search.proofs.all_known.Tie as tie
@@ -22,46 +20,25 @@ Inv-loop literals n k₀ k = any (unknown n) literals ≡ any (unknown n) (drop 
 abbrev μ-loop : tie.MeasureT-loop
 μ-loop literals n k₀ k = length literals - k
 
--- the size of literal k is its atom
-known : (c : tie.After-size Inv-loop μ-loop) → c .size .result ≡ atom (nth (c .before .before .before .before .args .literals .now) (c .before .before .before .loop .k))
-known c = let l = nth (c .before .before .before .before .args .literals .now) (c .before .before .before .loop .k) in
-    c .size .ensures ∙ ap {A = ℤ} atom (toZ-ofZ w64 l (record { sfits = c .before .size-arg .given }))
+told : (c : tie.After-atom-of Inv-loop μ-loop) → AtomOf (c .before .before .before .before .args .n) (nth (c .before .before .before .before .args .literals .now) (c .before .before .before .loop .k)) (c .atom-of .result)
+told c = told-atom (nth (c .before .before .before .before .args .literals .now) (c .before .before .before .loop .k)) (record { sfits = c .before .atom-of-arg .given }) (c .atom-of .ensures)
 
 returns : tie.Need-returns Inv-loop μ-loop
-returns c = let s = c .before .before .before .before .before in
-    let ls = s .args .literals .now in
-    let k = c .before .before .before .before .loop .k in
-    let n = s .args .n in
-    let found = any-found (unknown n) ls k (omega arith) (atom-zero n (nth ls k) (sym (known (c .before)) ∙ c .if1 .taken)) in
+returns c = let found = any-found (unknown (c .before .before .before .before .before .args .n)) (c .before .before .before .before .before .args .literals .now) (c .before .before .before .before .loop .k) (omega arith) (told (c .before) .none (c .if1 .taken)) in
     told-no (λ e. true≢false (sym found ∙ sym (c .before .before .before .before .loop .inv) ∙ e))
 
-returns-2 : tie.Need-returns-2 Inv-loop μ-loop
-returns-2 c = let s = c .before .before .before .before .before .before in
-    let ls = s .args .literals .now in
-    let k = c .before .before .before .before .before .loop .k in
-    let n = s .args .n in
-    let e = known (c .before .before) in
-    let found = any-found (unknown n) ls k (omega arith) (atom-high n (nth ls k) (omega (arith, e, c .before .if1 .left)) (omega (arith, e, c .if2 .taken))) in
-    told-no (λ e. true≢false (sym found ∙ sym (c .before .before .before .before .before .loop .inv) ∙ e))
-
 loop-again : tie.Need-loop-again Inv-loop μ-loop
-loop-again c = let s = c .before .before .before .before .before .before in
-    let ls = s .args .literals .now in
-    let k = c .before .before .before .before .before .loop .k in
-    let n = s .args .n in
-    let e = known (c .before .before) in
-    let f : suc k ≡ k + 1 = omega arith in
-    c .before .before .before .before .before .loop .inv
-    ∙ any-passed (unknown n) ls k (omega arith) (atom-known n (nth ls k) (omega (arith, e, c .before .if1 .left)) (omega (arith, e, c .if2 .left)))
-    ∙ ap {A = ℕ} (λ i. any (unknown n) (drop i ls)) f
+loop-again c = let p = unknown (c .before .before .before .before .before .args .n) in
+    let ls = c .before .before .before .before .before .args .literals .now in
+    let f : suc (c .before .before .before .before .loop .k) ≡ c .before .before .before .before .loop .k + 1 = omega arith in
+    c .before .before .before .before .loop .inv ∙ any-passed p ls (c .before .before .before .before .loop .k) (omega arith) (told (c .before) .some (c .if1 .left) .known) ∙ ap {A = ℕ} (λ i. any p (drop i ls)) f
 
-returns-3 : tie.Need-returns-3 Inv-loop μ-loop
-returns-3 c = let s = c .before .before in
-    told-yes (c .before .loop .inv ∙ any-past (unknown (s .args .n)) (s .args .literals .now) (c .before .loop .k) (omega arith))
+returns-2 : tie.Need-returns-2 Inv-loop μ-loop
+returns-2 c = told-yes (c .before .loop .inv ∙ any-past (unknown (c .before .before .args .n)) (c .before .before .args .literals .now) (c .before .loop .k) (omega arith))
 
 pub all-known-spec : {M : Type 1} → statement M
 all-known-spec =
     tie.close
     (tie.spec
-    Inv-loop μ-loop (λ c. refl) (λ c. search needs) (λ c. search needs) (λ c κs. search needs) returns returns-2 (λ c. search needs)
-    (λ c. search needs) loop-again returns-3)
+    Inv-loop μ-loop (λ c. refl) (λ c. search needs) (λ c. search needs) (λ c κs. search needs) returns (λ c. search needs) (λ c. search needs)
+    loop-again returns-2)

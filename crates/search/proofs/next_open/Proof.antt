@@ -1,22 +1,20 @@
--- Every literal before j has been passed, as its atom is on the trail; a literal's size is its atom (`Passing`).
-use mathlib.Core.Path.{_≡_, refl, sym, ap, _∙_}
+-- Every literal before j has been passed, as its atom is on the trail (`Passing`).
+use mathlib.Core.Path.{_≡_, refl, sym, ap, ap₂, _∙_}
 use native.Mathlib.Omega.{arith}
 use Prim.Native.Nat.{ℕ, suc, _+_, _-_, _≤_}
 use lib.ListN.{length, drop}
-use lib.IntN.{ℤ}
-use mir.Syntax.{w64}
-use mir.ValLaws.{toZ-ofZ}
 use Rattle.types.specs.declared.Limits.{Limits}
 use Rattle.meaning.specs.Meaning.{atom}
+use Rattle.literals.specs.Literals.{IsAtom}
+use Rattle.literals.proofs.Atoms.{told-atom, known-atom}
 use Rattle.book.specs.Table.{trying}
 use Rattle.book.specs.Book.{Counters}
-use Rattle.book.specs.Sound.{Within}
 use Rattle.area.specs.Whole.{Whole}
 use Rattle.area.specs.Layout.{atoms-of, value-at}
 use Rattle.calls.specs.Calls.{area-state}
 use Rattle.trail.proofs.OnTrail.{taken-on-trail, open-off-trail}
 use Rattle.search.specs.Turn.{nth}
-use Rattle.search.proofs.Passing.{atom-within, known-at, try-passed}
+use Rattle.search.proofs.Passing.{known-at, try-passed}
 use borrow.Author.Needs.{needs}
 use Rattle.search.proofs.next_open.Statement.{statement}
 use Rattle.search.proofs.next_open.Tie as tie
@@ -29,69 +27,50 @@ Inv-loop area literals start n j₀ j =
 abbrev μ-loop : tie.MeasureT-loop
 μ-loop area literals start n j₀ j = length literals - j
 
--- the size of literal j is its atom, and one of the area's
-known : (c : tie.After-size Inv-loop μ-loop) → c .size .result ≡ atom (nth (c .before .before .before .before .before .before .args .literals .now) (c .before .before .before .loop .j))
-known c = let l = nth (c .before .before .before .before .before .before .args .literals .now) (c .before .before .before .loop .j) in
-    c .size .ensures ∙ ap {A = ℤ} atom (toZ-ofZ w64 l (record { sfits = c .before .size-arg .given }))
+-- the atom of literal j, one of the area's, and its value word
+at : (c : tie.After-atom-of Inv-loop μ-loop) → IsAtom (atoms-of (c .before .before .before .before .before .before .args .area .now)) (nth (c .before .before .before .before .before .before .args .literals .now) (c .before .before .before .loop .j)) (c .atom-of .result)
+at c = let l = nth (c .before .before .before .before .before .before .args .literals .now) (c .before .before .before .loop .j) in
+    known-atom _ (rw (c .before .before .before .before .atoms-of .ensures) at (told-atom l (record { sfits = c .before .atom-of-arg .given }) (c .atom-of .ensures)))
+    (known-at _ (c .before .before .before .before .before .before .args .literals .now) (c .before .before .before .before .before .before .pre .searchable .known) (c .before .before .before .loop .j) (omega arith))
 
-within : (c : tie.After-size Inv-loop μ-loop) → Within (atoms-of (c .before .before .before .before .before .before .args .area .now)) (atom (nth (c .before .before .before .before .before .before .args .literals .now) (c .before .before .before .loop .j)))
-within c = let s = c .before .before .before .before .before .before in
-    let n = atoms-of (s .args .area .now) in
-    let ls = s .args .literals .now in
-    let j = c .before .before .before .loop .j in
-    atom-within n (nth ls j) (known-at n ls (s .pre .searchable .known) j (omega arith))
+told-value : (c : tie.After-value-at Inv-loop μ-loop)
+    → c .value-at .result ≡ value-at (c .before .before .before .before .before .before .before .args .area .now) (atoms-of (c .before .before .before .before .before .before .before .args .area .now)) (atom (nth (c .before .before .before .before .before .before .before .args .literals .now) (c .before .before .before .before .loop .j)))
+told-value c = c .value-at .ensures ∙ ap₂ {A = ℕ} {B = ℕ} (value-at (c .before .before .before .before .before .before .before .args .area .now)) (c .before .before .before .before .before .atoms-of .ensures) (at (c .before) .is)
 
-shared-slice-read-n : tie.Need-shared-slice-read-n Inv-loop μ-loop
-shared-slice-read-n c = let a = c .before .before .pre .searchable .usable in omega (arith, a .whole .enough, a .whole .theory .atoms-low)
+atoms-of-requires : tie.Need-atoms-of-requires Inv-loop μ-loop
+atoms-of-requires c κs = let h = c .before .pre .searchable .usable .whole in omega (arith, h .enough, h .theory .atoms-low)
 
 loop-holds : tie.Need-loop-holds Inv-loop μ-loop
 loop-holds c = (omega arith, c .before .before .pre .inside, λ lim h whole total. refl)
 
-sub-if1 : tie.Need-sub-if1 Inv-loop μ-loop
-sub-if1 c = let a = c .before .before .before .before .before .before .pre .searchable .usable in omega (arith, a .whole .theory .atoms-low)
-
-add-if1 : tie.Need-add-if1 Inv-loop μ-loop
-add-if1 c = let a = c .before .before .before .before .before .before .pre .searchable .usable in
-    omega (arith, a .whole .theory .atoms-high, a .fitting .atoms, known c, within c .1)
-
-mul-if1 : tie.Need-mul-if1 Inv-loop μ-loop
-mul-if1 c = let a = c .before .before .before .before .before .before .pre .searchable .usable in
-    omega (arith, a .whole .theory .atoms-high, a .fitting .atoms, known c, within c .1)
-
-shared-slice-read-if1 : tie.Need-shared-slice-read-if1 Inv-loop μ-loop
-shared-slice-read-if1 c = let a = c .before .before .before .before .before .before .before .pre .searchable .usable in
-    omega (arith, a .whole .enough, a .whole .theory .atoms-low, known (c .before), within (c .before) .1)
+value-at-requires : tie.Need-value-at-requires Inv-loop μ-loop
+value-at-requires c κs = let h = c .before .before .before .before .before .before .pre .searchable .usable .whole in
+    let a = at (c) in
+    (omega (arith, c .before .before .before .before .atoms-of .ensures, h .theory .atoms-low), omega (arith, c .before .before .before .before .atoms-of .ensures, h .enough, h .theory .atoms-low, a .is, a .high))
 
 returns : tie.Need-returns Inv-loop μ-loop
-returns c = λ lim had whole. let s = c .before .before .before .before .before .before .before .before in
-    let w = s .args .area .now in
-    let ls = s .args .literals .now in
-    let j = c .before .before .before .before .before .loop .j in
-    let i = c .before .before .before .before .before .loop .inv in
-    let at = within (c .before .before) in
+returns c = λ lim had whole. let i = c .before .before .before .before .before .loop .inv in
+    let a = at (c .before .before) in
     record {
       later = i .0;
       inside = i .1;
       passed = i .2 lim had whole;
-      is-open = λ l. open-off-trail lim w had whole (atom (nth ls j)) (at .0) (at .1) (ap {A = ℕ} (value-at w (atoms-of w)) (sym (known (c .before .before))) ∙ c .if1 .taken);
+      is-open = λ l. open-off-trail lim _ had whole _ (a .low) (a .high) (sym (told-value (c .before)) ∙ c .if1 .taken);
     }
 
 loop-again : tie.Need-loop-again Inv-loop μ-loop
-loop-again c = let i = c .before .before .before .before .before .loop .inv in (
-  omega (arith, i .0),
-  omega arith,
-  λ lim had whole total. let s = c .before .before .before .before .before .before .before .before in
-      let w = s .args .area .now in
-      let ls = s .args .literals .now in
-      let q = area-state lim w in
-      let j = c .before .before .before .before .before .loop .j in
-      let e = known (c .before .before) in
-      let at = within (c .before .before) in
-      let f : suc j ≡ j + 1 = omega arith in
-      i .2 lim had whole total
-      ∙ try-passed q ls j total (omega arith) (taken-on-trail lim w had whole (atom (nth ls j)) (at .0) (at .1) (λ z. c .if1 .left (ap {A = ℕ} (value-at w (atoms-of w)) e ∙ z)))
-      ∙ ap {A = ℕ} (λ k. trying q total k (drop k ls)) f,
-)
+loop-again c = let i = c .before .before .before .before .before .loop .inv in
+    let a = at (c .before .before) in
+    let ls = c .before .before .before .before .before .before .before .before .args .literals .now in
+    let f : suc (c .before .before .before .before .before .loop .j) ≡ c .before .before .before .before .before .loop .j + 1 = omega arith in (
+      omega (arith, i .0),
+      omega arith,
+      λ lim had whole total. let q = area-state lim (c .before .before .before .before .before .before .before .before .args .area .now) in
+          i .2 lim had whole total
+          ∙ try-passed q ls (c .before .before .before .before .before .loop .j) total (omega arith)
+          (taken-on-trail lim _ had whole _ (a .low) (a .high) (λ z. c .if1 .left (told-value (c .before) ∙ z)))
+          ∙ ap {A = ℕ} (λ k. trying q total k (drop k ls)) f,
+    )
 
 returns-2 : tie.Need-returns-2 Inv-loop μ-loop
 returns-2 c = λ lim had whole. let i = c .before .loop .inv in
@@ -101,5 +80,5 @@ pub next-open-spec : {M : Type 1} → statement M
 next-open-spec =
     tie.close
     (tie.spec
-    Inv-loop μ-loop shared-slice-read-n loop-holds (λ c. search needs) (λ c. search needs) (λ c κs. search needs) sub-if1 add-if1 mul-if1
-    shared-slice-read-if1 returns (λ c. search needs) (λ c. search needs) loop-again returns-2)
+    Inv-loop μ-loop atoms-of-requires loop-holds (λ c. search needs) (λ c. search needs) (λ c κs. search needs) value-at-requires returns
+    (λ c. search needs) (λ c. search needs) loop-again returns-2)
