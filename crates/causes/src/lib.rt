@@ -2,8 +2,8 @@
 ghost use mathlib.Core.Path.{_≡_};
 ghost use Prim.Native.Nat.{_≤_};
 ghost use lib.ListN.{getD};
-ghost use Rattle.meaning.specs.Meaning.{atom};
 ghost use Rattle.meaning.specs.Merge.{scope};
+ghost use Rattle.literals.specs.Literals.{IsAtom};
 ghost use Rattle.area.specs.Layout.{sign, merged-at, rule-at};
 ghost use Rattle.extremes.specs.Stored.{Ready};
 ghost use Rattle.causes.specs.Causes.{TrailAsked, CausesAsked, AtomAt, CauseAt, PositionIs};
@@ -14,10 +14,9 @@ fn atom_at(area: &[u64], n: usize, count: usize, base: usize, place: usize) -> u
     ensures { λ r. ⌜ AtomAt n (getD (scope (rule-at (now (area .entry)) n count base)) place 0) r ⌝ }
 {
     if place == 0 {
-        return area[base] as usize;
+        return area::head_at(area, base) as usize;
     }
-    let start = 4 * n + 8 * count + 2 * area[base + 6] as usize;
-    (area[start + 2 * (place - 1) + 1] / 2) as usize
+    (area::entry_literal_at(area, n, count, base, place - 1) / 2) as usize
 }
 
 // Where the literal of the atom at a place of that sentence stands among the first `limit` rows; `limit` where it does not.
@@ -33,7 +32,7 @@ pub fn cause_at(
     ensures { λ r. ⌜ CauseAt (now (area .entry)) n (getD (scope (rule-at (now (area .entry)) n count base)) place 0) limit r ⌝ }
 {
     let atom = atom_at(area, n, count, base, place);
-    let v = area[n - 1 + atom];
+    let v = area::value_at(area, n, atom);
     if v == 0 {
         return limit;
     }
@@ -55,11 +54,11 @@ fn sign_of(literal: i64) -> u64
 }
 
 // Where a literal of that size stands among the rows; `rows` where it does not.
-pub fn position_of(area: &[u64], n: usize, rows: usize, literal: i64, size: u64) -> usize
-    requires { ⌜ TrailAsked (now area) n rows × (size ≡ atom literal) × (1 ≤ size) × (size ≤ n) ⌝ }
+pub fn position_of(area: &[u64], n: usize, rows: usize, literal: i64, size: usize) -> usize
+    requires { ⌜ TrailAsked (now area) n rows × IsAtom n literal size ⌝ }
     ensures { λ r. ⌜ PositionIs (now (area .entry)) n literal rows r ⌝ }
 {
-    let v = area[n - 1 + size as usize];
+    let v = area::value_at(area, n, size);
     if v == 0 {
         return rows;
     }
