@@ -10,7 +10,7 @@ use lib.Dec.{T, T-not, leb→le, leb}
 use Rattle.meaning.specs.Meaning.{atom, Sentence, Each}
 use Rattle.types.specs.declared.Limits.{Limits}
 use Rattle.book.specs.Rows.{Row, row, trail, any}
-use Rattle.book.specs.Table.{Judged, State, Outcome, Call, give, open-level, take-back, propagate, search, bounds, explain, explain-conflict, origin, list-trail, Speech, nothing, objects, derives, speech, Stop, run, propagated, no-atom, on-trail, refusals, End, end, apart, put-on, propagating, following, turning, tried, trying, searching, effect}
+use Rattle.book.specs.Table.{Judged, State, Outcome, Step, give, open-level, take-back, propagate, search, Call, step, report, Speech, nothing, objects, derives, speech, Stop, run, propagated, no-atom, on-trail, step-refusals, refusals, End, end, apart, put-on, propagating, following, turning, tried, trying, searching, step-effect, effect}
 use Rattle.book.specs.Book.{JudgesAll, Book, Asked, book-state, turn, after, played}
 use Rattle.book.proofs.Speech.{derived-of}
 use Rattle.book.specs.Sound.{Within, Scoped, Sound, SoundBook}
@@ -93,19 +93,18 @@ module _ (lim : Limits) (js : List Judged) (b : Book) (w : Each (Scoped (b .atom
   abbrev Good : Outcome → Type 0
   Good o = Sound (b .atoms) (b .sentences) (o .level) (o .rows)
 
-  effect-sound : (x : Call) → Passed (refusals q x) → Good (effect q x)
-  effect-sound (give l) p =
+  step-sound : (x : Step) → Passed (step-refusals q x) → Good (step-effect q x)
+  step-sound (give l) p =
       give-sound (b .atoms) (b .sentences) (b .level) (b .rows) l (atom-told (b .atoms) l (p .0))
       (λ o. T-not (on-trail q (atom l)) (p .1 .0) (on-tells (atom l) (trail (b .rows)) o)) h
-  effect-sound open-level p = sound-higher (b .atoms) (b .sentences) (b .level) (suc (b .level)) (b .rows) (omega arith) h
-  effect-sound (take-back k) p = up-to-sound (b .atoms) (b .sentences) (b .level) k (b .rows) h
-  effect-sound propagate p = run-sound (b .atoms) (b .sentences) js w m (b .level) (suc (b .atoms)) (b .rows) h
-  effect-sound (search ls) p = searching-sound (q .broken) (b .atoms) (q .levels) (b .sentences) js w m ls (b .level) (b .rows) (p .0) h
-  effect-sound (bounds k) p = h
-  effect-sound (explain l room) p = h
-  effect-sound (explain-conflict k room) p = h
-  effect-sound (origin l room) p = h
-  effect-sound (list-trail room) p = h
+  step-sound open-level p = sound-higher (b .atoms) (b .sentences) (b .level) (suc (b .level)) (b .rows) (omega arith) h
+  step-sound (take-back k) p = up-to-sound (b .atoms) (b .sentences) (b .level) k (b .rows) h
+  step-sound propagate p = run-sound (b .atoms) (b .sentences) js w m (b .level) (suc (b .atoms)) (b .rows) h
+  step-sound (search ls) p = searching-sound (q .broken) (b .atoms) (q .levels) (b .sentences) js w m ls (b .level) (b .rows) (p .0) h
+
+  effect-sound : (x : Call) → Passed (refusals q x) → Good (effect q x)
+  effect-sound (step x) p = step-sound x p
+  effect-sound (report x room) p = h
 
   pub turn-sound : Sound (b .atoms) (b .sentences) (turn lim js b a .level) (turn lim js b a .rows)
   turn-sound = reply-is Good q (a .call) (λ c n. h) (effect-sound (a .call))

@@ -9,17 +9,17 @@ use lib.IntN.{ℤ}
 use lib.Dec.{T, leb}
 use Rattle.meaning.specs.Meaning.{atom}
 use Rattle.book.specs.Rows.{Row, row, any}
-use Rattle.book.specs.Table.{Call, give, open-level, propagate, search, refused, paper, Judged, State, propagated, no-atom, on-trail, Outcome, unchanged, ended, giving, opening, put-on, propagating, following, End, end, apart, turning, tried, trying, searching, search-ended, effect, reply, called}
-use Rattle.book.specs.Made.{at-still, propagate-then, made-next, made, called-all, Taken, AllTaken, Makes}
+use Rattle.book.specs.Table.{Step, give, open-level, propagate, search, step, refused, paper, Judged, State, propagated, no-atom, on-trail, Outcome, unchanged, ended, giving, opening, put-on, propagating, following, End, end, apart, turning, tried, trying, searching, search-ended, effect, reply}
+use Rattle.book.specs.Made.{at-still, propagate-then, made-next, called-all, Taken, AllTaken, Makes}
 use Rattle.book.proofs.Tests.{none-first, none-rest}
 use Rattle.book.proofs.Keeps.{state-at}
 
 -- the calls are taken, and lead from one state to the other
-abbrev Leads : State → List Call → State → Type 0
+abbrev Leads : State → List Step → State → Type 0
 Leads q xs p = AllTaken q xs × (called-all q xs ≡ p)
 
 -- one call more in front, with this reply
-leads-on : (q : State) (x : Call) (o : Outcome) (xs : List Call) (p : State) → reply q x ≡ o → paper (o .answer) .code ≡ 0 → Leads (following q o) xs p → Leads q (x ∷ xs) p
+leads-on : (q : State) (x : Step) (o : Outcome) (xs : List Step) (p : State) → reply q (step x) ≡ o → paper (o .answer) .code ≡ 0 → Leads (following q o) xs p → Leads q (x ∷ xs) p
 leads-on q x o xs p e t h =
     let back = subst (λ (y : Outcome). AllTaken (following q y) xs × (called-all (following q y) xs ≡ p)) (sym e) h in
     ((ap (λ (y : Outcome). paper (y .answer) .code) e ∙ t, back .0), back .1)
@@ -41,22 +41,22 @@ module _ (n top : ℕ) (js : List Judged) where
 
   -- ---- each call's reply
 
-  pub open-taken : (v : ℕ) (rs : List Row) → leb top v ≡ false → reply (here v rs) open-level ≡ opening (here v rs)
+  open-taken : (v : ℕ) (rs : List Row) → leb top v ≡ false → reply (here v rs) (step open-level) ≡ opening (here v rs)
   unfolding reply
   open-taken v rs e = ap {A = Bool} (λ b. cond b (unchanged (here v rs) (refused 14 0)) (opening (here v rs))) e
 
-  pub give-taken : (v : ℕ) (rs : List Row) (l : ℤ) → no-atom (here v rs) l ≡ false → on-trail (here v rs) (atom l) ≡ false → reply (here v rs) (give l) ≡ giving (here v rs) l
+  pub give-taken : (v : ℕ) (rs : List Row) (l : ℤ) → no-atom (here v rs) l ≡ false → on-trail (here v rs) (atom l) ≡ false → reply (here v rs) (step (give l)) ≡ giving (here v rs) l
   unfolding reply
   give-taken v rs l e f =
       ap₂ {A = Bool} {B = Bool} (λ a b. cond a (unchanged (here v rs) (refused 10 0)) (cond b (unchanged (here v rs) (refused 11 0)) (giving (here v rs) l))) e f
 
-  propagate-taken : (v : ℕ) (rs : List Row) → reply (here v rs) propagate ≡ propagating (here v rs)
+  propagate-taken : (v : ℕ) (rs : List Row) → reply (here v rs) (step propagate) ≡ propagating (here v rs)
   unfolding reply
   propagate-taken v rs = refl
 
   -- ---- a turn
 
-  turning-made : (d g v : ℕ) (rs : List Row) (on : State → ℕ → End) (calls : State → List Call)
+  turning-made : (d g v : ℕ) (rs : List Row) (on : State → ℕ → End) (calls : State → List Step)
       → ((rs′ : List Row) (e : ℕ) → Leads (here v rs′) (calls (here v rs′)) (ended-at (on (here v rs′) e)))
       → Leads (here v rs) (propagate-then (here v rs) calls) (ended-at (turning (here v rs) d g on))
   turning-made d g v rs on calls f =
@@ -114,7 +114,7 @@ unfolding reply
 search-makes q ls t = go (q .broken) (any (no-atom q) ls) refl refl t
   where
     go : (x y : Bool) → q .broken ≡ x → any (no-atom q) ls ≡ y
-        → paper (cond x (unchanged q (refused 9 0)) (cond y (unchanged q (refused 10 0)) (effect q (search ls))) .answer) .code ≡ 0 → Makes q ls
+        → paper (cond x (unchanged q (refused 9 0)) (cond y (unchanged q (refused 10 0)) (effect q (step (search ls)))) .answer) .code ≡ 0 → Makes q ls
     go true y e f t = absurd (let b : ⊥ = omega (arith, t) in b)
     go false true e f t = absurd (let b : ⊥ = omega (arith, t) in b)
     go false false e f t =

@@ -3,7 +3,7 @@
 use mathlib.Core.Path.{_≡_, refl, sym, subst}
 use mathlib.Core.Bool.{Bool, true, false, not}
 use mathlib.Core.List.{List}
-use Prim.Native.Nat.{ℕ, zero, suc, _-_, _≤_}
+use Prim.Native.Nat.{ℕ, _≤_}
 use native.Mathlib.Omega.{arith}
 use lib.ListN.{length}
 use lib.IntN.{ℤ}
@@ -13,7 +13,7 @@ use Rattle.numbers.specs.Extended.{Extended, up, down}
 use Rattle.meaning.specs.Meaning.{Sentence, Consistent, Furthest, Conflict, Said, silent, conflict, forced, Says, Each}
 use Rattle.types.specs.declared.Limits.{Limits}
 use Rattle.book.specs.Rows.{trail, row-of, numbered}
-use Rattle.book.specs.Table.{Call, give, open-level, take-back, propagate, search, bounds, explain, explain-conflict, origin, list-trail, between, listed, Judged, State, nobody, propagated, result, no-sentence, stands, was-given, in-conflict, is-conflict, refusals, ended, effect, reply}
+use Rattle.book.specs.Table.{Report, bounds, explain, explain-conflict, origin, report, Result, between, listed, reported, Judged, State, nobody, result, no-sentence, stands, was-given, in-conflict, is-conflict, refusals, reply}
 use Rattle.book.specs.Book.{JudgesAll, Book, Counters, book-state}
 use Rattle.meaning.proofs.Orders.{T-true}
 use Rattle.book.specs.Means.{IsNumber, Bounded, Explains, ExplainsConflict, OriginList}
@@ -26,33 +26,12 @@ use Rattle.book.proofs.Origins.{originates}
 
 -- ---- the answer of a report
 
-ended-lists-nothing : (k n : ℕ) (ls : List ℤ) → ended k n ≡ listed ls → ⊥
-ended-lists-nothing zero n ls e = let z : _≡_ {A = ℕ} 0 1 = cc in omega arith
-ended-lists-nothing (suc k) n ls e = let z : _≡_ {A = ℕ} 0 1 = cc in omega arith
-
-effect-listed : (q : State) (x : Call) (ls : List ℤ) → effect q x .answer ≡ listed ls → result q x ≡ ls
-effect-listed q (give l) ls e = let z : _≡_ {A = ℕ} 0 1 = cc in absurd (omega arith)
-effect-listed q open-level ls e = let z : _≡_ {A = ℕ} 0 1 = cc in absurd (omega arith)
-effect-listed q (take-back k) ls e = let z : _≡_ {A = ℕ} 0 1 = cc in absurd (omega arith)
-effect-listed q propagate ls e = absurd (ended-lists-nothing (propagated q .sentence) (length (propagated q .rows) - length (q .rows)) ls e)
-effect-listed q (search xs) ls e = let z : _≡_ {A = ℕ} 0 1 = cc in absurd (omega arith)
-effect-listed q (bounds k) ls e = let z : _≡_ {A = ℕ} 0 1 = cc in absurd (omega arith)
-effect-listed q (explain l room) ls e = cc
-effect-listed q (explain-conflict k room) ls e = cc
-effect-listed q (origin l room) ls e = cc
-effect-listed q (list-trail room) ls e = cc
-
--- a list is handed back only where no refusal applies, and it is the call's
-pub listed-is : (q : State) (x : Call) (ls : List ℤ) → reply q x .answer ≡ listed ls → Passed (refusals q x) × (result q x ≡ ls)
-listed-is q x ls =
-    reply-is (λ o. o .answer ≡ listed ls → Passed (refusals q x) × (result q x ≡ ls)) q x
-    (λ c n e. let z : _≡_ {A = ℕ} 0 1 = cc in absurd (omega arith)) (λ p e. (p, effect-listed q x ls e))
-
-pub bounds-is : (q : State) (k : ℕ) (v w : Extended) → reply q (bounds k) .answer ≡ between v w
-    → Passed (refusals q (bounds k)) × (numbered nobody k (q .sentences) .least (trail (q .rows)) ≡ v) × (numbered nobody k (q .sentences) .greatest (trail (q .rows)) ≡ w)
-bounds-is q k v w =
-    reply-is (λ o. o .answer ≡ between v w → Passed (refusals q (bounds k)) × (numbered nobody k (q .sentences) .least (trail (q .rows)) ≡ v) × (numbered nobody k (q .sentences) .greatest (trail (q .rows)) ≡ w)) q (bounds k)
-    (λ c n e. let z : _≡_ {A = ℕ} 0 1 = cc in absurd (omega arith)) (λ p e. (p, (cc), (cc)))
+-- a result is handed back only where no refusal applies, and it is the report's
+pub reported-is : (q : State) (x : Report) (room : ℕ) (r : Result) → reply q (report x room) .answer ≡ reported r
+    → Passed (refusals q (report x room)) × (result q x ≡ r)
+reported-is q x room r =
+    reply-is (λ o. o .answer ≡ reported r → Passed (refusals q (report x room)) × (result q x ≡ r)) q (report x room)
+    (λ c n e. let z : _≡_ {A = ℕ} 0 1 = cc in absurd (omega arith)) (λ p e. (p, (cc)))
 
 -- ---- what the tests tell
 
@@ -81,16 +60,16 @@ module _ (lim : Limits) (js : List Judged) (b : Book) (m : JudgesAll (b .sentenc
       numbered-exists k (b .sentences) (leb→le 1 k (i .0)) (subst (λ n. k ≤ n) (sym (judges-length (b .sentences) js m)) (leb→le k (length js) (i .1)))
 
   -- bounds
-  pub bounds-mean : (k : ℕ) (v w : Extended) → reply q (bounds k) .answer ≡ between v w → Bounded (b .sentences) t k v w
-  bounds-mean k v w e =
-      let x = bounds-is q k v w e in
+  pub bounds-mean : (k room : ℕ) (v w : Extended) → reply q (report (bounds k) room) .answer ≡ reported (between v w) → Bounded (b .sentences) t k v w
+  bounds-mean k room v w e =
+      let x = reported-is q (bounds k) room (between v w) e in
       let s = sentence-at k (x .0 .0) in
       let j = judges-numbered nobody k (b .sentences) js (s .0) m (s .1) in
       record {
         sentence = s .0;
         number = s .1;
-        least = subst (Furthest down (s .0) t) (x .1) (j .least-is t c);
-        greatest = subst (Furthest up (s .0) t) (x .2) (j .greatest-is t c);
+        least = subst (Furthest down (s .0) t) (cc (x .1)) (j .least-is t c);
+        greatest = subst (Furthest up (s .0) t) (cc (x .1)) (j .greatest-is t c);
       }
 
   in-conflict-means : (k : ℕ) (s : Sentence) → IsNumber k (b .sentences) s → T (in-conflict q k) → Conflict s t
@@ -100,25 +79,25 @@ module _ (lim : Limits) (js : List Judged) (b : Book) (m : JudgesAll (b .sentenc
 
   module _ (blind : Each Blind (b .sentences)) where
     -- explain
-    pub explain-means : (l : ℤ) (room : ℕ) (ls : List ℤ) → reply q (explain l room) .answer ≡ listed ls → Explains (b .sentences) (b .rows) l ls
+    pub explain-means : (l : ℤ) (room : ℕ) (ls : List ℤ) → reply q (report (explain l) room) .answer ≡ reported (listed ls) → Explains (b .sentences) (b .rows) l ls
     explain-means l room ls e =
-        let x = listed-is q (explain l room) ls e in
-        subst (Explains (b .sentences) (b .rows) l) (x .1)
+        let x = reported-is q (explain l) room (listed ls) e in
+        subst (Explains (b .sentences) (b .rows) l) (cc (x .1))
         (explained (b .atoms) (b .sentences) js blind m (b .level) (b .rows) h l (stands-told l t (affirmed (stands q l) (x .0 .1 .0)))
         (λ z. T-not (was-given q l) (x .0 .1 .1 .0) (T-true (eq-eqb (row-of l (b .rows) .mine .reason) 0 z))))
 
     -- explain-conflict
-    pub explain-conflict-means : (k room : ℕ) (ls : List ℤ) → reply q (explain-conflict k room) .answer ≡ listed ls → ExplainsConflict (b .sentences) (b .rows) k ls
+    pub explain-conflict-means : (k room : ℕ) (ls : List ℤ) → reply q (report (explain-conflict k) room) .answer ≡ reported (listed ls) → ExplainsConflict (b .sentences) (b .rows) k ls
     explain-conflict-means k room ls e =
-        let x = listed-is q (explain-conflict k room) ls e in
+        let x = reported-is q (explain-conflict k) room (listed ls) e in
         let s = sentence-at k (x .0 .0) in
-        subst (ExplainsConflict (b .sentences) (b .rows) k) (x .1)
+        subst (ExplainsConflict (b .sentences) (b .rows) k) (cc (x .1))
         (conflict-explained (b .atoms) (b .sentences) js blind m (b .level) (b .rows) h k (s .0) (s .1)
         (in-conflict-means k (s .0) (s .1) (affirmed (in-conflict q k) (x .0 .1 .0))))
 
     -- origin
-    pub origin-means : (l : ℤ) (room : ℕ) (ls : List ℤ) → reply q (origin l room) .answer ≡ listed ls → OriginList (b .sentences) (b .rows) l ls
+    pub origin-means : (l : ℤ) (room : ℕ) (ls : List ℤ) → reply q (report (origin l) room) .answer ≡ reported (listed ls) → OriginList (b .sentences) (b .rows) l ls
     origin-means l room ls e =
-        let x = listed-is q (origin l room) ls e in
-        subst (OriginList (b .sentences) (b .rows) l) (x .1)
+        let x = reported-is q (origin l) room (listed ls) e in
+        subst (OriginList (b .sentences) (b .rows) l) (cc (x .1))
         (originates (b .atoms) (b .sentences) js blind m (b .level) (b .rows) h l (stands-told l t (affirmed (stands q l) (x .0 .1 .0))))

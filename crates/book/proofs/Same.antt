@@ -2,16 +2,16 @@
 -- Where the trail is consistent, what a sentence says and its bounds are one thing, and the trail of a sound book is consistent.
 use mathlib.Core.Path.{_≡_, refl, sym, _∙_, ap, ap₂, subst}
 use mathlib.Core.Bool.{Bool, true, false, not, cond, _&&_}
-use mathlib.Core.List.{List, [], _∷_}
+use mathlib.Core.List.{List, [], _∷_, _++_}
 use Prim.Native.Nat.{ℕ, zero, suc, _+_, _-_}
 use lib.ListN.{length}
 use lib.IntN.{ℤ}
-use lib.Dec.{T, leb, ltb}
+use lib.Dec.{T, leb}
 use Rattle.numbers.specs.Extended.{up, down}
 use Rattle.meaning.specs.Meaning.{atom, Sentence, Consistent, Says, Each}
 use Rattle.types.specs.declared.Limits.{Limits}
 use Rattle.book.specs.Rows.{Row, row, trail, any, numbered, explanation, conflict-explanation, origins}
-use Rattle.book.specs.Table.{Call, give, open-level, take-back, propagate, search, bounds, explain, explain-conflict, origin, list-trail, Answer, between, listed, Judged, State, scopes, nobody, Speech, nothing, objects, derives, spoken, speech, Stop, run, propagated, result, Refusal, refusal, no-atom, on-trail, stands, was-given, is-conflict, refusals, Outcome, unchanged, ended, End, end, apart, turning, tried, trying, searching, search-ended, effect, decided, reply}
+use Rattle.book.specs.Table.{Step, give, open-level, take-back, propagate, search, Report, bounds, explain, explain-conflict, origin, list-trail, Call, step, report, Result, between, listed, Answer, reported, list-of, Judged, State, scopes, nobody, Speech, nothing, objects, derives, spoken, speech, Stop, run, propagated, result, Refusal, refusal, too-short, no-atom, on-trail, is-conflict, step-refusals, report-refusals, refusals, Outcome, unchanged, ended, End, end, apart, turning, tried, trying, searching, search-ended, step-effect, effect, decided, reply}
 use Rattle.book.specs.Book.{Judges, JudgesAll, Book, Asked, book-state, turn, after, answers, played}
 use Rattle.meaning.proofs.Says.{says-unique}
 use Rattle.meaning.proofs.Extremes.{furthest-unique}
@@ -153,20 +153,14 @@ module _ (lim : Limits) (b : Book) (js js′ : List Judged) (w : Each (Scoped (b
     c : Consistent t
     c = consistent (b .atoms) (b .sentences) (b .level) (b .rows) h
 
-    result-same : (x : Call) → result q x ≡ result q′ x
-    result-same (give l) = refl
-    result-same open-level = refl
-    result-same (take-back k) = refl
-    result-same propagate = refl
-    result-same (search ls) = refl
-    result-same (bounds k) = refl
-    result-same (explain l room) = ap (λ sc. explanation sc (b .rows) l) (scopes-same (b .sentences) js js′ m m′)
-    result-same (explain-conflict k room) = ap (λ sc. conflict-explanation sc (b .rows) k) (scopes-same (b .sentences) js js′ m m′)
-    result-same (origin l room) = ap (λ sc. origins sc (b .rows) l) (scopes-same (b .sentences) js js′ m m′)
-    result-same (list-trail room) = refl
-
-    abbrev short : ℕ → List ℤ → Refusal
-    short room ls = record { code = 18; applies = ltb room (length ls); value = length ls }
+    result-same : (x : Report) → result q x ≡ result q′ x
+    result-same (bounds k) =
+        ap₂ {C = Result} between (numbered-same (λ j. j .least t) (least-same t c) k (b .sentences) js js′ m m′)
+        (numbered-same (λ j. j .greatest t) (greatest-same t c) k (b .sentences) js js′ m m′)
+    result-same (explain l) = ap {B = Result} (λ sc. listed (explanation sc (b .rows) l)) (scopes-same (b .sentences) js js′ m m′)
+    result-same (explain-conflict k) = ap {B = Result} (λ sc. listed (conflict-explanation sc (b .rows) k)) (scopes-same (b .sentences) js js′ m m′)
+    result-same (origin l) = ap {B = Result} (λ sc. listed (origins sc (b .rows) l)) (scopes-same (b .sentences) js js′ m m′)
+    result-same list-trail = refl
 
     length-same : length js ≡ length js′
     length-same = sym (judges-length (b .sentences) js m) ∙ judges-length (b .sentences) js′ m′
@@ -174,39 +168,39 @@ module _ (lim : Limits) (b : Book) (js js′ : List Judged) (w : Each (Scoped (b
     abbrev unnumbered : ℕ → ℕ → Refusal
     unnumbered k n = refusal 16 (not (leb 1 k && leb k n))
 
-    refusals-same : (x : Call) → refusals q x ≡ refusals q′ x
-    refusals-same (give l) = refl
-    refusals-same open-level = refl
-    refusals-same (take-back k) = refl
-    refusals-same propagate = refl
-    refusals-same (search ls) = refl
-    refusals-same (bounds k) = ap (λ n. unnumbered k n ∷ []) length-same
-    refusals-same (explain l room) =
-        ap (λ ls. refusal 10 (no-atom q l) ∷ refusal 12 (not (stands q l)) ∷ refusal 13 (was-given q l) ∷ short room ls ∷ []) (result-same (explain l room))
-    refusals-same (explain-conflict k room) =
-        ap₂ (λ n y. unnumbered k n ∷ refusal 17 (not (is-conflict y)) ∷ short room (result q (explain-conflict k room)) ∷ [])
+    own-same : (x : Report) → report-refusals q x ≡ report-refusals q′ x
+    own-same (bounds k) = ap (λ n. unnumbered k n ∷ []) length-same
+    own-same (explain l) = refl
+    own-same (explain-conflict k) =
+        ap₂ (λ n y. unnumbered k n ∷ refusal 17 (not (is-conflict y)) ∷ [])
         length-same (numbered-same (λ j. j .says t) (said-same t c) k (b .sentences) js js′ m m′)
-        ∙ ap (λ ls. unnumbered k (length js′) ∷ refusal 17 (not (is-conflict (numbered nobody k js′ .says t))) ∷ short room ls ∷ []) (result-same (explain-conflict k room))
-    refusals-same (origin l room) = ap (λ ls. refusal 10 (no-atom q l) ∷ refusal 12 (not (stands q l)) ∷ short room ls ∷ []) (result-same (origin l room))
-    refusals-same (list-trail room) = refl
+    own-same (origin l) = refl
+    own-same list-trail = refl
 
-    effect-same : (x : Call) → Passed (refusals q x) → effect q x ≡ effect q′ x
-    effect-same (give l) p = refl
-    effect-same open-level p = refl
-    effect-same (take-back k) p = refl
-    effect-same propagate p =
+    steps-same : (x : Step) → step-refusals q x ≡ step-refusals q′ x
+    steps-same (give l) = refl
+    steps-same open-level = refl
+    steps-same (take-back k) = refl
+    steps-same propagate = refl
+    steps-same (search ls) = refl
+
+    refusals-same : (x : Call) → refusals q x ≡ refusals q′ x
+    refusals-same (step x) = steps-same x
+    refusals-same (report x room) = ap₂ (λ rs r. rs ++ (too-short room (list-of r) ∷ [])) (own-same x) (result-same x)
+
+    step-same : (x : Step) → Passed (step-refusals q x) → step-effect q x ≡ step-effect q′ x
+    step-same (give l) p = refl
+    step-same open-level p = refl
+    step-same (take-back k) p = refl
+    step-same propagate p =
         ap {B = Outcome} (λ (z : Stop). record { answer = ended (z .sentence) (length (z .rows) - length (b .rows)); level = b .level; rows = z .rows })
         (run-same (b .atoms) (b .sentences) js js′ w m m′ (b .level) (suc (b .atoms)) (b .rows) h)
-    effect-same (search ls) p =
+    step-same (search ls) p =
         ap search-ended (searching-same (b .atoms) (b .sentences) js js′ w m m′ (q .broken) (q .levels) ls (b .level) (b .rows) (p .0) h)
-    effect-same (bounds k) p =
-        ap₂ (λ v w. unchanged q (between v w))
-        (numbered-same (λ j. j .least t) (least-same t c) k (b .sentences) js js′ m m′)
-        (numbered-same (λ j. j .greatest t) (greatest-same t c) k (b .sentences) js js′ m m′)
-    effect-same (explain l room) p = ap (λ ls. unchanged q (listed ls)) (result-same (explain l room))
-    effect-same (explain-conflict k room) p = ap (λ ls. unchanged q (listed ls)) (result-same (explain-conflict k room))
-    effect-same (origin l room) p = ap (λ ls. unchanged q (listed ls)) (result-same (origin l room))
-    effect-same (list-trail room) p = refl
+
+    effect-same : (x : Call) → Passed (refusals q x) → effect q x ≡ effect q′ x
+    effect-same (step x) p = step-same x p
+    effect-same (report x room) p = ap (λ r. unchanged q (reported r)) (result-same x)
 
     decided-same : (rs : List Refusal) (o : Outcome) → decided q rs o ≡ decided q′ rs o
     decided-same [] o = refl

@@ -9,7 +9,7 @@ use Rattle.meaning.specs.Meaning.{sum, maximum, lower, upper, Sentence}
 use Rattle.meaning.specs.Examples.{minus, _on_, sentence, over-none, m1, m3, m4, m8, m9, m10}
 use Rattle.types.specs.declared.Limits.{Limits}
 use Rattle.types.specs.Limits.{base}
-use Rattle.book.specs.Table.{Call, give, open-level, take-back, propagate, search, bounds, explain, explain-conflict, origin, list-trail, Answer, refused, done, still, clash, searched, between, listed, Paper, paper, list-after, Judged}
+use Rattle.book.specs.Table.{Step, give, open-level, take-back, propagate, search, Report, bounds, explain, explain-conflict, origin, list-trail, Call, step, report, Result, between, listed, Answer, refused, done, still, clash, searched, reported, Paper, paper, list-after, Judged}
 use Rattle.book.specs.Book.{JudgesAll, fresh, Asked, answers}
 
 pub record Turn : Type 0 where
@@ -36,8 +36,19 @@ Told x = (js : List Judged) → JudgesAll (x .sentences) js → answers (x .limi
 
 -- ---- short forms: a call on an area of the size, with the counters (length, level), and its answer
 
-abbrev pub ask : (size length level : ℕ) → Call → Answer → Turn
-ask i n v x a = record { asked = record { call = x; size = i; counters = record { length-is = n; level-is = v } }; answer = a }
+abbrev pub call : (size length level : ℕ) → Call → Answer → Turn
+call i n v x a = record { asked = record { call = x; size = i; counters = record { length-is = n; level-is = v } }; answer = a }
+
+abbrev pub ask : (size length level : ℕ) → Step → Answer → Turn
+ask i n v x a = call i n v (step x) a
+
+-- a report, with the length of its lent list, and its result
+abbrev pub see : (size length level : ℕ) → Report → (room : ℕ) → Result → Turn
+see i n v x room r = call i n v (report x room) (reported r)
+
+-- or its refusal
+abbrev pub miss : (size length level : ℕ) → Report → (room : ℕ) → Answer → Turn
+miss i n v x room a = call i n v (report x room) a
 
 abbrev pub story : ℕ → List Sentence → List Turn → Story
 story n ss xs = record { limits = base; atoms = n; sentences = ss; turns = xs }
@@ -47,55 +58,55 @@ story n ss xs = record { limits = base; atoms = n; sentences = ss; turns = xs }
 abbrev pub story-1 : Story
 story-1 = story 6 (m1 ∷ [])
     (ask 42 0 0 (give (minus 4)) done ∷ ask 42 1 0 (give (pos 5)) done
-    ∷ ask 42 2 0 (bounds 1) (between (at (pos 2)) (at (pos 9))) ∷ ask 42 2 0 propagate (still 0) ∷ [])
+    ∷ see 42 2 0 (bounds 1) 0 (between (at (pos 2)) (at (pos 9))) ∷ ask 42 2 0 propagate (still 0) ∷ [])
 
 abbrev pub story-2 : Story
 story-2 = story 6 (m1 ∷ [])
     (ask 42 0 0 (give (pos 6)) done ∷ ask 42 1 0 (give (pos 1)) done ∷ ask 42 2 0 propagate (still 1)
-    ∷ ask 42 3 0 (list-trail 9) (listed (pos 6 ∷ pos 0 ∷ pos 0 ∷ pos 1 ∷ pos 0 ∷ pos 0 ∷ pos 5 ∷ pos 0 ∷ pos 1 ∷ []))
-    ∷ ask 42 3 0 (bounds 1) (between (at (pos 2)) (at (pos 5))) ∷ [])
+    ∷ see 42 3 0 list-trail 9 (listed (pos 6 ∷ pos 0 ∷ pos 0 ∷ pos 1 ∷ pos 0 ∷ pos 0 ∷ pos 5 ∷ pos 0 ∷ pos 1 ∷ []))
+    ∷ see 42 3 0 (bounds 1) 0 (between (at (pos 2)) (at (pos 5))) ∷ [])
 
 abbrev pub story-3 : Story
-story-3 = story 3 (m3 ∷ []) (ask 28 0 0 (bounds 1) (between (at (minus 5)) (at (pos 5))) ∷ [])
+story-3 = story 3 (m3 ∷ []) (see 28 0 0 (bounds 1) 0 (between (at (minus 5)) (at (pos 5))) ∷ [])
 
 abbrev pub story-4 : Story
 story-4 = story 3 (m4 ∷ [])
     (ask 24 0 0 (give (pos 3)) done ∷ ask 24 1 0 (give (pos 1)) done ∷ ask 24 2 0 propagate (still 1)
-    ∷ ask 24 3 0 (explain (minus 2) 3) (listed (minus 2 ∷ minus 3 ∷ minus 1 ∷ [])) ∷ [])
+    ∷ see 24 3 0 (explain (minus 2)) 3 (listed (minus 2 ∷ minus 3 ∷ minus 1 ∷ [])) ∷ [])
 
 abbrev pub story-5 : Story
 story-5 = story 3 (m4 ∷ [])
     (ask 24 0 0 (give (pos 3)) done ∷ ask 24 1 0 (give (pos 1)) done ∷ ask 24 2 0 (give (pos 2)) done ∷ ask 24 3 0 propagate (clash 1 0)
-    ∷ ask 24 3 0 (explain-conflict 1 3) (listed (minus 3 ∷ minus 1 ∷ minus 2 ∷ [])) ∷ [])
+    ∷ see 24 3 0 (explain-conflict 1) 3 (listed (minus 3 ∷ minus 1 ∷ minus 2 ∷ [])) ∷ [])
 
 abbrev pub story-6 : Story
 story-6 = story 1 (over-none maximum upper ∷ [])
-    (ask 12 0 0 propagate (still 1) ∷ ask 12 1 0 (list-trail 3) (listed (pos 1 ∷ pos 0 ∷ pos 1 ∷ [])) ∷ [])
+    (ask 12 0 0 propagate (still 1) ∷ see 12 1 0 list-trail 3 (listed (pos 1 ∷ pos 0 ∷ pos 1 ∷ [])) ∷ [])
 
 abbrev pub story-7 : Story
 story-7 = story 1 (over-none maximum lower ∷ [])
-    (ask 12 0 0 propagate (still 1) ∷ ask 12 1 0 (list-trail 3) (listed (minus 1 ∷ pos 0 ∷ pos 1 ∷ [])) ∷ [])
+    (ask 12 0 0 propagate (still 1) ∷ see 12 1 0 list-trail 3 (listed (minus 1 ∷ pos 0 ∷ pos 1 ∷ [])) ∷ [])
 
 abbrev pub story-8 : Story
 story-8 = story 3 (m8 ∷ [])
     (ask 24 0 0 (give (pos 3)) done ∷ ask 24 1 0 propagate (still 1)
-    ∷ ask 24 2 0 (list-trail 6) (listed (pos 3 ∷ pos 0 ∷ pos 0 ∷ pos 1 ∷ pos 0 ∷ pos 1 ∷ [])) ∷ [])
+    ∷ see 24 2 0 list-trail 6 (listed (pos 3 ∷ pos 0 ∷ pos 0 ∷ pos 1 ∷ pos 0 ∷ pos 1 ∷ [])) ∷ [])
 
 abbrev pub story-9 : Story
-story-9 = story 3 (m9 ∷ []) (ask 24 0 0 (give (minus 1)) done ∷ ask 24 1 0 (bounds 1) (between (at (pos 8)) above) ∷ [])
+story-9 = story 3 (m9 ∷ []) (ask 24 0 0 (give (minus 1)) done ∷ see 24 1 0 (bounds 1) 0 (between (at (pos 8)) above) ∷ [])
 
 abbrev pub story-10 : Story
 story-10 = story 3 (m10 ∷ [])
-    (ask 24 0 0 (give (pos 3)) done ∷ ask 24 1 0 (bounds 1) (between (at (pos 1)) (at (pos 6))) ∷ ask 24 1 0 propagate (still 0)
+    (ask 24 0 0 (give (pos 3)) done ∷ see 24 1 0 (bounds 1) 0 (between (at (pos 1)) (at (pos 6))) ∷ ask 24 1 0 propagate (still 0)
     ∷ ask 24 1 0 (give (pos 1)) done ∷ ask 24 2 0 propagate (still 1)
-    ∷ ask 24 3 0 (list-trail 9) (listed (pos 3 ∷ pos 0 ∷ pos 0 ∷ pos 1 ∷ pos 0 ∷ pos 0 ∷ minus 2 ∷ pos 0 ∷ pos 1 ∷ [])) ∷ [])
+    ∷ see 24 3 0 list-trail 9 (listed (pos 3 ∷ pos 0 ∷ pos 0 ∷ pos 1 ∷ pos 0 ∷ pos 0 ∷ minus 2 ∷ pos 0 ∷ pos 1 ∷ [])) ∷ [])
 
 abbrev pub story-11 : Story
 story-11 = story 3 (m4 ∷ [])
     (ask 24 0 0 (give (pos 3)) done ∷ ask 24 1 0 (give (pos 1)) done ∷ ask 24 2 0 open-level done ∷ ask 24 2 1 propagate (still 1)
-    ∷ ask 24 3 1 (list-trail 9) (listed (pos 3 ∷ pos 0 ∷ pos 0 ∷ pos 1 ∷ pos 0 ∷ pos 0 ∷ minus 2 ∷ pos 1 ∷ pos 1 ∷ []))
-    ∷ ask 24 3 1 (take-back 0) done ∷ ask 24 2 0 (bounds 1) (between (at (pos 1)) (at (pos 3))) ∷ ask 24 2 0 propagate (still 1)
-    ∷ ask 24 3 0 (list-trail 9) (listed (pos 3 ∷ pos 0 ∷ pos 0 ∷ pos 1 ∷ pos 0 ∷ pos 0 ∷ minus 2 ∷ pos 0 ∷ pos 1 ∷ [])) ∷ [])
+    ∷ see 24 3 1 list-trail 9 (listed (pos 3 ∷ pos 0 ∷ pos 0 ∷ pos 1 ∷ pos 0 ∷ pos 0 ∷ minus 2 ∷ pos 1 ∷ pos 1 ∷ []))
+    ∷ ask 24 3 1 (take-back 0) done ∷ see 24 2 0 (bounds 1) 0 (between (at (pos 1)) (at (pos 3))) ∷ ask 24 2 0 propagate (still 1)
+    ∷ see 24 3 0 list-trail 9 (listed (pos 3 ∷ pos 0 ∷ pos 0 ∷ pos 1 ∷ pos 0 ∷ pos 0 ∷ minus 2 ∷ pos 0 ∷ pos 1 ∷ [])) ∷ [])
 
 abbrev pub ring : ℕ → ℕ → Sentence
 ring h a = sentence h sum lower (pos 1) (pos 1 on pos a ∷ [])
@@ -103,8 +114,8 @@ ring h a = sentence h sum lower (pos 1) (pos 1 on pos a ∷ [])
 abbrev pub story-12 : Story
 story-12 = story 2 (ring 1 2 ∷ ring 2 1 ∷ [])
     (ask 28 0 0 (give (pos 1)) done ∷ ask 28 1 0 propagate (still 1)
-    ∷ ask 28 2 0 (list-trail 6) (listed (pos 1 ∷ pos 0 ∷ pos 0 ∷ pos 2 ∷ pos 0 ∷ pos 1 ∷ []))
-    ∷ ask 28 2 0 (origin (pos 2) 1) (listed (pos 1 ∷ [])) ∷ [])
+    ∷ see 28 2 0 list-trail 6 (listed (pos 1 ∷ pos 0 ∷ pos 0 ∷ pos 2 ∷ pos 0 ∷ pos 1 ∷ []))
+    ∷ see 28 2 0 (origin (pos 2)) 1 (listed (pos 1 ∷ [])) ∷ [])
 
 -- ---- the refusals 9 to 18: each is got, and just missed
 
@@ -116,15 +127,15 @@ refusing = record {
   turns =
       ask 23 0 0 (give (pos 3)) (refused 9 0) ∷ ask 24 1 0 (give (pos 3)) (refused 9 0) ∷ ask 24 0 1 (give (pos 3)) (refused 9 0)
       ∷ ask 24 0 0 (give (pos 0)) (refused 10 0) ∷ ask 24 0 0 (give (minus 4)) (refused 10 0) ∷ ask 24 0 0 (give (pos 3)) done
-      ∷ ask 24 1 0 (give (minus 3)) (refused 11 0) ∷ ask 24 1 0 (explain (pos 1) 0) (refused 12 0) ∷ ask 24 1 0 (origin (minus 3) 0) (refused 12 0)
-      ∷ ask 24 1 0 (explain (pos 4) 0) (refused 10 0) ∷ ask 24 1 0 (origin (pos 0) 0) (refused 10 0)
-      ∷ ask 24 1 0 (explain (pos 3) 0) (refused 13 0) ∷ ask 24 1 0 (origin (pos 3) 0) (refused 18 1) ∷ ask 24 1 0 (origin (pos 3) 1) (listed (pos 3 ∷ []))
+      ∷ ask 24 1 0 (give (minus 3)) (refused 11 0) ∷ miss 24 1 0 (explain (pos 1)) 0 (refused 12 0) ∷ miss 24 1 0 (origin (minus 3)) 0 (refused 12 0)
+      ∷ miss 24 1 0 (explain (pos 4)) 0 (refused 10 0) ∷ miss 24 1 0 (origin (pos 0)) 0 (refused 10 0)
+      ∷ miss 24 1 0 (explain (pos 3)) 0 (refused 13 0) ∷ miss 24 1 0 (origin (pos 3)) 0 (refused 18 1) ∷ see 24 1 0 (origin (pos 3)) 1 (listed (pos 3 ∷ []))
       ∷ ask 24 1 0 (take-back 1) (refused 15 0) ∷ ask 24 1 0 open-level done ∷ ask 24 1 1 open-level (refused 14 0) ∷ ask 24 1 1 (take-back 1) done
-      ∷ ask 24 1 1 (bounds 0) (refused 16 0) ∷ ask 24 1 1 (bounds 2) (refused 16 0) ∷ ask 24 1 1 (explain-conflict 2 0) (refused 16 0)
-      ∷ ask 24 1 1 (explain-conflict 1 3) (refused 17 0) ∷ ask 24 1 1 (give (pos 1)) done ∷ ask 24 2 1 propagate (still 1)
-      ∷ ask 24 3 1 (explain (minus 2) 2) (refused 18 3) ∷ ask 24 3 1 (take-back 0) done ∷ ask 24 1 0 (give (pos 2)) done
-      ∷ ask 24 2 0 (explain-conflict 1 1) (refused 18 2) ∷ ask 24 2 0 (explain-conflict 1 2) (listed (minus 3 ∷ minus 2 ∷ []))
-      ∷ ask 24 2 0 (list-trail 5) (refused 18 6) ∷ [];
+      ∷ miss 24 1 1 (bounds 0) 0 (refused 16 0) ∷ miss 24 1 1 (bounds 2) 0 (refused 16 0) ∷ miss 24 1 1 (explain-conflict 2) 0 (refused 16 0)
+      ∷ miss 24 1 1 (explain-conflict 1) 3 (refused 17 0) ∷ ask 24 1 1 (give (pos 1)) done ∷ ask 24 2 1 propagate (still 1)
+      ∷ miss 24 3 1 (explain (minus 2)) 2 (refused 18 3) ∷ ask 24 3 1 (take-back 0) done ∷ ask 24 1 0 (give (pos 2)) done
+      ∷ miss 24 2 0 (explain-conflict 1) 1 (refused 18 2) ∷ see 24 2 0 (explain-conflict 1) 2 (listed (minus 3 ∷ minus 2 ∷ []))
+      ∷ miss 24 2 0 list-trail 5 (refused 18 6) ∷ [];
 }
 
 -- ---- searches
@@ -140,7 +151,7 @@ search-levels = record {
       ask 23 0 0 (search (pos 4 ∷ [])) (refused 9 0) ∷ ask 24 0 0 (search (pos 3 ∷ minus 2 ∷ minus 4 ∷ [])) (refused 10 0)
       ∷ ask 24 0 0 (search (pos 3 ∷ pos 0 ∷ [])) (refused 10 0) ∷ ask 24 0 0 (search []) (searched 0 0 0)
       ∷ ask 24 0 0 (search (pos 3 ∷ pos 2 ∷ minus 1 ∷ pos 3 ∷ [])) (searched 0 1 2)
-      ∷ ask 24 2 1 (list-trail 6) (listed (pos 3 ∷ pos 1 ∷ pos 0 ∷ minus 2 ∷ pos 1 ∷ pos 1 ∷ []))
+      ∷ see 24 2 1 list-trail 6 (listed (pos 3 ∷ pos 1 ∷ pos 0 ∷ minus 2 ∷ pos 1 ∷ pos 1 ∷ []))
       ∷ ask 24 2 1 (search (minus 2 ∷ minus 3 ∷ [])) (searched 0 0 2) ∷ [];
 }
 
@@ -152,7 +163,7 @@ search-conflict = story 2 (ring 1 2 ∷ sentence 1 sum upper (pos 0) (pos 1 on p
 abbrev pub search-ring : Story
 search-ring = story 2 (ring 1 2 ∷ ring 2 1 ∷ [])
     (ask 28 0 0 (search (pos 1 ∷ minus 2 ∷ [])) (searched 0 1 2)
-    ∷ ask 28 2 1 (list-trail 6) (listed (pos 1 ∷ pos 1 ∷ pos 0 ∷ pos 2 ∷ pos 1 ∷ pos 1 ∷ [])) ∷ [])
+    ∷ see 28 2 1 list-trail 6 (listed (pos 1 ∷ pos 1 ∷ pos 0 ∷ pos 2 ∷ pos 1 ∷ pos 1 ∷ [])) ∷ [])
 
 abbrev pub stories : List Story
 stories =
@@ -182,10 +193,10 @@ printings =
     ∷ prints (still 2) 0 2 0 0 0 (pos 0) 0 (pos 0) [] []
     ∷ prints (clash 4 1) 0 1 4 0 0 (pos 0) 0 (pos 0) [] []
     ∷ prints (searched 4 1 2) 0 1 4 2 0 (pos 0) 0 (pos 0) [] []
-    ∷ prints (between (at (minus 5)) (at (pos 5))) 0 0 0 0 0 (minus 5) 0 (pos 5) [] []
-    ∷ prints (between below (at (pos 9))) 0 0 0 0 1 (pos 0) 0 (pos 9) [] []
-    ∷ prints (between (at (pos 8)) above) 0 0 0 0 0 (pos 8) 2 (pos 0) [] []
-    ∷ prints (listed (minus 2 ∷ minus 3 ∷ [])) 0 2 0 0 0 (pos 0) 0 (pos 0) (pos 7 ∷ pos 8 ∷ pos 9 ∷ []) (minus 2 ∷ minus 3 ∷ pos 9 ∷ [])
+    ∷ prints (reported (between (at (minus 5)) (at (pos 5)))) 0 0 0 0 0 (minus 5) 0 (pos 5) [] []
+    ∷ prints (reported (between below (at (pos 9)))) 0 0 0 0 1 (pos 0) 0 (pos 9) [] []
+    ∷ prints (reported (between (at (pos 8)) above)) 0 0 0 0 0 (pos 8) 2 (pos 0) [] []
+    ∷ prints (reported (listed (minus 2 ∷ minus 3 ∷ []))) 0 2 0 0 0 (pos 0) 0 (pos 0) (pos 7 ∷ pos 8 ∷ pos 9 ∷ []) (minus 2 ∷ minus 3 ∷ pos 9 ∷ [])
     ∷ []
 
 abbrev pub Rightly : Printed → Type 0

@@ -12,18 +12,31 @@ use Rattle.book.specs.Rows.{Row, row, trail, up-to, row-of, numbered, ex
 
 -- ---- calls and answers
 
--- a list call is fed the length of its lent result list
+-- calls that may change the level and the rows
+pub data Step : Type 0 where
+  give : ℤ → Step
+  open-level : Step
+  take-back : ℕ → Step
+  propagate : Step
+  search : List ℤ → Step
+
+-- calls with a result and no effect
+pub data Report : Type 0 where
+  bounds : ℕ → Report
+  explain : ℤ → Report
+  explain-conflict : ℕ → Report
+  origin : ℤ → Report
+  list-trail : Report
+
+-- a report is fed the length of its lent result list, 0 where it lends none
 pub data Call : Type 0 where
-  give : ℤ → Call
-  open-level : Call
-  take-back : ℕ → Call
-  propagate : Call
-  search : List ℤ → Call
-  bounds : ℕ → Call
-  explain : ℤ → ℕ → Call
-  explain-conflict : ℕ → ℕ → Call
-  origin : ℤ → ℕ → Call
-  list-trail : ℕ → Call
+  step : Step → Call
+  report : Report → (room : ℕ) → Call
+
+-- two bounds, or a list
+pub data Result : Type 0 where
+  between : Extended → Extended → Result
+  listed : List ℤ → Result
 
 -- `still` and `clash` carry the number of literals put on; `clash` the sentence in conflict before it. `searched` has the sentence in
 -- conflict, 0 where there is none, the literals derived over all turns, and how many literals of its list it went through
@@ -33,8 +46,7 @@ pub data Answer : Type 0 where
   still : ℕ → Answer
   clash : ℕ → ℕ → Answer
   searched : (sentence derived gone : ℕ) → Answer
-  between : Extended → Extended → Answer
-  listed : List ℤ → Answer
+  reported : Result → Answer
 
 -- ---- the paper's numbers for every answer
 
@@ -73,18 +85,25 @@ paper done = numbers 0 0 0 0 (at (pos 0)) (at (pos 0))
 paper (still n) = numbers 0 n 0 0 (at (pos 0)) (at (pos 0))
 paper (clash k n) = numbers 0 n k 0 (at (pos 0)) (at (pos 0))
 paper (searched k n g) = numbers 0 n k g (at (pos 0)) (at (pos 0))
-paper (between v w) = numbers 0 0 0 0 v w
-paper (listed ls) = numbers 0 (length ls) 0 0 (at (pos 0)) (at (pos 0))
+paper (reported (between v w)) = numbers 0 0 0 0 v w
+paper (reported (listed ls)) = numbers 0 (length ls) 0 0 (at (pos 0)) (at (pos 0))
 
--- the lent result list after the call: words past the result keep their contents
+abbrev pub list-of : Result → List ℤ
+list-of (between v w) = []
+list-of (listed ls) = ls
+
+-- the list that an answer hands back
+abbrev pub handed : Answer → List ℤ
+handed (refused c n) = []
+handed done = []
+handed (still n) = []
+handed (clash k n) = []
+handed (searched k n g) = []
+handed (reported r) = list-of r
+
+-- the lent result list after the call: words past the list that is handed back keep their contents
 abbrev pub list-after : Answer → List ℤ → List ℤ
-list-after (refused c n) old = old
-list-after done old = old
-list-after (still n) old = old
-list-after (clash k n) old = old
-list-after (searched k n g) old = old
-list-after (between v w) old = old
-list-after (listed ls) old = ls ++ drop (length ls) old
+list-after a old = handed a ++ drop (length (handed a)) old
 
 -- ---- what the table looks at
 
@@ -143,19 +162,14 @@ run js v (suc n) rs =
 abbrev pub propagated : State → Stop
 propagated q = run (q .sentences) (q .level) (suc (q .atoms)) (q .rows)
 
--- ---- the lists that are handed back
+-- ---- each report's result
 
-abbrev pub result : State → Call → List ℤ
-result q (give l) = []
-result q open-level = []
-result q (take-back k) = []
-result q propagate = []
-result q (search ls) = []
-result q (bounds k) = []
-result q (explain l room) = explanation (scopes (q .sentences)) (q .rows) l
-result q (explain-conflict k room) = conflict-explanation (scopes (q .sentences)) (q .rows) k
-result q (origin l room) = origins (scopes (q .sentences)) (q .rows) l
-result q (list-trail room) = flat (q .rows)
+abbrev pub result : State → Report → Result
+result q (bounds k) = between (numbered nobody k (q .sentences) .least (trail (q .rows))) (numbered nobody k (q .sentences) .greatest (trail (q .rows)))
+result q (explain l) = listed (explanation (scopes (q .sentences)) (q .rows) l)
+result q (explain-conflict k) = listed (conflict-explanation (scopes (q .sentences)) (q .rows) k)
+result q (origin l) = listed (origins (scopes (q .sentences)) (q .rows) l)
+result q list-trail = listed (flat (q .rows))
 
 -- ---- refusals
 
@@ -168,8 +182,8 @@ abbrev pub refusal : ℕ → Bool → Refusal
 refusal c b = record { code = c; applies = b; value = 0 }
 
 -- 18 comes with the needed length
-abbrev pub too-short : State → Call → ℕ → Refusal
-too-short q x room = record { code = 18; applies = ltb room (length (result q x)); value = length (result q x) }
+abbrev pub too-short : ℕ → List ℤ → Refusal
+too-short room ls = record { code = 18; applies = ltb room (length ls); value = length ls }
 
 abbrev pub no-atom : State → ℤ → Bool
 no-atom q l = not (leb 1 (atom l) && leb (atom l) (q .atoms))
@@ -194,20 +208,24 @@ is-conflict (forced l) = false
 abbrev pub in-conflict : State → ℕ → Bool
 in-conflict q k = is-conflict (numbered nobody k (q .sentences) .says (trail (q .rows)))
 
--- the rows of the table that a call can get, in its order; 9 stands before them at every call
+-- the rows of the table that a call can get, in its order; 9 stands before them at every call, and 18 after a report's own
+abbrev pub step-refusals : State → Step → List Refusal
+step-refusals q (give l) = refusal 10 (no-atom q l) ∷ refusal 11 (on-trail q (atom l)) ∷ []
+step-refusals q open-level = refusal 14 (leb (q .levels) (q .level)) ∷ []
+step-refusals q (take-back k) = refusal 15 (ltb (q .level) k) ∷ []
+step-refusals q propagate = []
+step-refusals q (search ls) = refusal 10 (any (no-atom q) ls) ∷ []
+
+abbrev pub report-refusals : State → Report → List Refusal
+report-refusals q (bounds k) = refusal 16 (no-sentence q k) ∷ []
+report-refusals q (explain l) = refusal 10 (no-atom q l) ∷ refusal 12 (not (stands q l)) ∷ refusal 13 (was-given q l) ∷ []
+report-refusals q (explain-conflict k) = refusal 16 (no-sentence q k) ∷ refusal 17 (not (in-conflict q k)) ∷ []
+report-refusals q (origin l) = refusal 10 (no-atom q l) ∷ refusal 12 (not (stands q l)) ∷ []
+report-refusals q list-trail = []
+
 abbrev pub refusals : State → Call → List Refusal
-refusals q (give l) = refusal 10 (no-atom q l) ∷ refusal 11 (on-trail q (atom l)) ∷ []
-refusals q open-level = refusal 14 (leb (q .levels) (q .level)) ∷ []
-refusals q (take-back k) = refusal 15 (ltb (q .level) k) ∷ []
-refusals q propagate = []
-refusals q (search ls) = refusal 10 (any (no-atom q) ls) ∷ []
-refusals q (bounds k) = refusal 16 (no-sentence q k) ∷ []
-refusals q (explain l room) =
-    refusal 10 (no-atom q l) ∷ refusal 12 (not (stands q l)) ∷ refusal 13 (was-given q l) ∷ too-short q (explain l room) room ∷ []
-refusals q (explain-conflict k room) =
-    refusal 16 (no-sentence q k) ∷ refusal 17 (not (in-conflict q k)) ∷ too-short q (explain-conflict k room) room ∷ []
-refusals q (origin l room) = refusal 10 (no-atom q l) ∷ refusal 12 (not (stands q l)) ∷ too-short q (origin l room) room ∷ []
-refusals q (list-trail room) = too-short q (list-trail room) room ∷ []
+refusals q (step x) = step-refusals q x
+refusals q (report x room) = report-refusals q x ++ (too-short room (list-of (result q x)) ∷ [])
 
 -- ---- effects
 
@@ -284,18 +302,16 @@ search-ended e = record { answer = searched (e .sentence) (e .derived) (e .gone)
 
 -- ---- each call's effect
 
+abbrev pub step-effect : State → Step → Outcome
+step-effect q (give l) = giving q l
+step-effect q open-level = opening q
+step-effect q (take-back k) = record { answer = done; level = k; rows = up-to k (q .rows) }
+step-effect q propagate = propagating q
+step-effect q (search ls) = search-ended (searching q ls)
+
 abbrev pub effect : State → Call → Outcome
-effect q (give l) = giving q l
-effect q open-level = opening q
-effect q (take-back k) = record { answer = done; level = k; rows = up-to k (q .rows) }
-effect q propagate = propagating q
-effect q (search ls) = search-ended (searching q ls)
-effect q (bounds k) =
-    unchanged q (between (numbered nobody k (q .sentences) .least (trail (q .rows))) (numbered nobody k (q .sentences) .greatest (trail (q .rows))))
-effect q (explain l room) = unchanged q (listed (result q (explain l room)))
-effect q (explain-conflict k room) = unchanged q (listed (result q (explain-conflict k room)))
-effect q (origin l room) = unchanged q (listed (result q (origin l room)))
-effect q (list-trail room) = unchanged q (listed (result q (list-trail room)))
+effect q (step x) = step-effect q x
+effect q (report x room) = unchanged q (reported (result q x))
 
 -- the first refusal that applies, which changes nothing, and otherwise the effect
 abbrev pub decided : State → List Refusal → Outcome → Outcome

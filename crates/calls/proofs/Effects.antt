@@ -10,11 +10,10 @@ use lib.Seq.{take-append-seam}
 use lib.IntN.{ℤ}
 use Rattle.types.specs.declared.Limits.{Limits}
 use Rattle.meaning.specs.Meaning.{Each}
-use Rattle.book.specs.Table.{Call, give, open-level, take-back, propagate, search, bounds, explain, explain-conflict, origin, list-trail, Answer, refused, listed, Paper, paper, list-after, State, result, Refusal, refusal, refusals, Outcome, unchanged, effect, decided, reply}
+use Rattle.book.specs.Table.{Step, give, open-level, take-back, propagate, search, Report, bounds, explain, explain-conflict, origin, list-trail, Call, step, report, Result, between, listed, Answer, refused, reported, list-of, Paper, paper, list-after, State, result, Refusal, refusal, step-refusals, refusals, Outcome, unchanged, effect, decided, reply}
 use Rattle.book.specs.Book.{Counters}
 use Rattle.area.specs.Whole.{Whole}
-use Rattle.calls.specs.declared.Listed.{Listed}
-use Rattle.calls.specs.Calls.{listed-paper, area-state, Lists}
+use Rattle.calls.specs.Calls.{area-state, Reports}
 
 -- ---- the code 0
 
@@ -22,17 +21,23 @@ module _ (q : State) where
   abbrev Coded : Refusal → Type 0
   Coded r = ¬ (r .code ≡ 0)
 
+  steps-coded : (x : Step) → Each Coded (step-refusals q x)
+  steps-coded (give l) = ((λ e. omega arith), ((λ e. omega arith), tt))
+  steps-coded open-level = ((λ e. omega arith), tt)
+  steps-coded (take-back k) = ((λ e. omega arith), tt)
+  steps-coded propagate = tt
+  steps-coded (search ls) = ((λ e. omega arith), tt)
+
+  own-coded : (x : Report) (room : ℕ) → Each Coded (refusals q (report x room))
+  own-coded (bounds k) room = ((λ e. omega arith), ((λ e. omega arith), tt))
+  own-coded (explain l) room = ((λ e. omega arith), ((λ e. omega arith), ((λ e. omega arith), ((λ e. omega arith), tt))))
+  own-coded (explain-conflict k) room = ((λ e. omega arith), ((λ e. omega arith), ((λ e. omega arith), tt)))
+  own-coded (origin l) room = ((λ e. omega arith), ((λ e. omega arith), ((λ e. omega arith), tt)))
+  own-coded list-trail room = ((λ e. omega arith), tt)
+
   coded : (x : Call) → Each Coded (refusals q x)
-  coded (give l) = ((λ e. omega arith), ((λ e. omega arith), tt))
-  coded open-level = ((λ e. omega arith), tt)
-  coded (take-back k) = ((λ e. omega arith), tt)
-  coded propagate = tt
-  coded (search ls) = ((λ e. omega arith), tt)
-  coded (bounds k) = ((λ e. omega arith), tt)
-  coded (explain l room) = ((λ e. omega arith), ((λ e. omega arith), ((λ e. omega arith), ((λ e. omega arith), tt))))
-  coded (explain-conflict k room) = ((λ e. omega arith), ((λ e. omega arith), ((λ e. omega arith), tt)))
-  coded (origin l room) = ((λ e. omega arith), ((λ e. omega arith), ((λ e. omega arith), tt)))
-  coded (list-trail room) = ((λ e. omega arith), tt)
+  coded (step x) = steps-coded x
+  coded (report x room) = own-coded x room
 
   abbrev by : Refusal → List Refusal → Outcome → Bool → Outcome
   by r rs o b = cond b (unchanged q (refused (r .code) (r .value))) (decided q rs o)
@@ -51,16 +56,24 @@ module _ (q : State) where
 
 -- ---- a list that is handed back
 
-module _ (lim : Limits) (w : List ℕ) (c : Counters) (h : Whole lim w c) (x : Call) (old new : List ℤ) (r : Listed)
-    (a : Lists lim w c x old new (listed-paper r)) (z : r .code ≡ 0) (f : effect (area-state lim w) x .answer ≡ listed (result (area-state lim w) x)) where
+value-is : (r : Result) → paper (reported r) .value ≡ length (list-of r)
+value-is (between v w) = refl
+value-is (listed ls) = refl
+
+module _ (lim : Limits) (w : List ℕ) (c : Counters) (h : Whole lim w c) (x : Report) (old new : List ℤ) (p : Paper)
+    (a : Reports lim w c x old new p) (z : p .code ≡ 0) where
   abbrev q : State
   q = area-state lim w
 
-  pub listed-here : reply q x .answer ≡ listed (result q x)
-  listed-here = ap {A = Outcome} (λ o. o .answer) (reply-effect q x (ap {A = Paper} (λ p. p .code) (sym (a .answer .told h)) ∙ z)) ∙ f
+  abbrev ls : List ℤ
+  ls = list-of (result q x)
 
-  pub taken : take (r .value) new ≡ result q x
+  pub reported-here : reply q (report x (length old)) .answer ≡ reported (result q x)
+  reported-here =
+      ap {A = Outcome} (λ o. o .answer) (reply-effect q (report x (length old)) (ap {A = Paper} (λ p. p .code) (sym (a .answer .told h)) ∙ z))
+
+  pub taken : take (p .value) new ≡ ls
   taken =
-      let v : r .value ≡ length (result q x) = ap {A = Paper} (λ p. p .value) (a .answer .told h) ∙ ap {A = Answer} (λ y. paper y .value) listed-here in
-      let l : new ≡ list-after (listed (result q x)) old = a .written h ∙ ap {A = Answer} (λ y. list-after y old) listed-here in
-      ap₂ {A = ℕ} {B = List ℤ} take v l ∙ take-append-seam (result q x) (drop (length (result q x)) old)
+      let v : p .value ≡ length ls = ap {A = Paper} (λ p. p .value) (a .answer .told h) ∙ ap {A = Answer} (λ y. paper y .value) reported-here ∙ value-is (result q x) in
+      let l : new ≡ list-after (reported (result q x)) old = a .written h ∙ ap {A = Answer} (λ y. list-after y old) reported-here in
+      ap₂ {A = ℕ} {B = List ℤ} take v l ∙ take-append-seam ls (drop (length ls) old)

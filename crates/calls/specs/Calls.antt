@@ -9,7 +9,7 @@ use lib.IntN.{ℤ, pos}
 use lib.Dec.{T, eqb}
 use Rattle.types.specs.declared.Limits.{Limits}
 use Rattle.types.specs.declared.Counters as t
-use Rattle.book.specs.Table.{Call, give, open-level, take-back, propagate, search, bounds, explain, explain-conflict, origin, list-trail, Answer, refused, done, still, clash, searched, between, listed, Paper, paper, list-after, State, Outcome, reply}
+use Rattle.book.specs.Table.{Step, give, open-level, take-back, propagate, search, Report, Call, step, report, Answer, refused, done, still, clash, searched, reported, Paper, paper, list-after, State, Outcome, reply}
 use Rattle.book.specs.Book.{Counters, judged-all}
 use Rattle.area.specs.Layout.{atoms-of, level-of, rows-of, theory-of, need-of}
 use Rattle.area.specs.Whole.{Whole}
@@ -52,24 +52,18 @@ is-refusal done = false
 is-refusal (still n) = false
 is-refusal (clash k n) = false
 is-refusal (searched k n g) = false
-is-refusal (between v w) = false
-is-refusal (listed ls) = false
+is-refusal (reported r) = false
 
--- taking back to the current level changes nothing, and neither does a report
-abbrev pub idle : State → Call → Bool
+-- taking back to the current level changes nothing
+abbrev pub idle : State → Step → Bool
 idle q (give l) = false
 idle q open-level = false
 idle q (take-back k) = eqb k (q .level)
 idle q propagate = false
 idle q (search ls) = false
-idle q (bounds k) = true
-idle q (explain l room) = true
-idle q (explain-conflict k room) = true
-idle q (origin l room) = true
-idle q (list-trail room) = true
 
-abbrev pub keeps : State → Call → Bool
-keeps q x = is-refusal (reply q x .answer) || idle q x
+abbrev pub keeps : State → Step → Bool
+keeps q x = is-refusal (reply q (step x) .answer) || idle q x
 
 -- a whole area with the level and rows of the outcome; theory, atoms and the words past the need as they were. Pending marks are open
 pub record Moved (lim : Limits) (w w′ : List ℕ) (c′ : Counters) (o : Outcome) : Type 0 where
@@ -81,15 +75,15 @@ pub record Moved (lim : Limits) (w w′ : List ℕ) (c′ : Counters) (o : Outco
   pub size : length w′ ≡ length w
   pub rest : drop (need-of w) w′ ≡ drop (need-of w) w
 
-pub record Acts (lim : Limits) (w w′ : List ℕ) (c c′ : Counters) (x : Call) (p : Paper) : Type 0 where
-  pub answer : Answered lim w c x p
+pub record Acts (lim : Limits) (w w′ : List ℕ) (c c′ : Counters) (x : Step) (p : Paper) : Type 0 where
+  pub answer : Answered lim w c (step x) p
   pub broken : ¬ (Whole lim w c) → (w′ ≡ w) × (c′ ≡ c)
   pub kept : Whole lim w c → T (keeps (area-state lim w) x) → (w′ ≡ w) × (c′ ≡ c)
-  pub moved : Whole lim w c → T (not (keeps (area-state lim w) x)) → Moved lim w w′ c′ (reply (area-state lim w) x)
+  pub moved : Whole lim w c → T (not (keeps (area-state lim w) x)) → Moved lim w w′ c′ (reply (area-state lim w) (step x))
 
--- ---- reports that write a lent list: `old` and `new` are the list before and after
+-- ---- reports, which change no word of the area: `old` and `new` are the lent list before and after, empty where there is none
 
-pub record Lists (lim : Limits) (w : List ℕ) (c : Counters) (x : Call) (old new : List ℤ) (p : Paper) : Type 0 where
-  pub answer : Answered lim w c x p
+pub record Reports (lim : Limits) (w : List ℕ) (c : Counters) (x : Report) (old new : List ℤ) (p : Paper) : Type 0 where
+  pub answer : Answered lim w c (report x (length old)) p
   pub broken : ¬ (Whole lim w c) → new ≡ old
-  pub written : Whole lim w c → new ≡ list-after (reply (area-state lim w) x .answer) old
+  pub written : Whole lim w c → new ≡ list-after (reply (area-state lim w) (report x (length old)) .answer) old

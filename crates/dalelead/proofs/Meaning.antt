@@ -12,7 +12,7 @@ use Rattle.numbers.specs.Extended.{Extended}
 use Rattle.meaning.specs.Meaning.{Sentence, Each}
 use Rattle.meaning.specs.Merge.{Rule, as-sentence}
 use Rattle.book.specs.Rows.{trail}
-use Rattle.book.specs.Table.{Call, bounds, explain-conflict, between, listed, Paper, paper, Judged, Outcome, run, propagated, result, effect, reply}
+use Rattle.book.specs.Table.{bounds, explain-conflict, report, between, listed, reported, list-of, Paper, paper, Judged, Outcome, run, propagated, result, effect, reply}
 use Rattle.book.specs.Book.{JudgesAll, judged-all, rules-of, WellFormed}
 use Rattle.book.specs.Means.{SaysNothing, Clashes, Additions, Bounded, ExplainsConflict}
 use Rattle.book.proofs.Judged.{all-judged}
@@ -20,10 +20,10 @@ use Rattle.book.proofs.Run.{run-alike}
 use Rattle.area.specs.Layout.{atoms-of, level-of, rows-of, theory-of}
 use Rattle.area.specs.Whole.{Whole}
 use Rattle.whole.proofs.Stored.{all-merged, well-formed, speech-restored}
-use Rattle.calls.specs.Calls.{counted, bounds-paper, area-state}
+use Rattle.calls.specs.Calls.{counted, bounds-paper, listed-paper, area-state}
 use Rattle.calls.specs.declared.Bounds.{Bounds}
 use Rattle.calls.specs.declared.Listed.{Listed}
-use Rattle.calls.proofs.Effects.{reply-effect, listed-here, taken}
+use Rattle.calls.proofs.Effects.{reply-effect, reported-here, taken}
 use Rattle.propagate.specs.declared.Propagated.{Propagated}
 use Rattle.propagate.specs.declared.Propagated.the-variants.{Still, Conflict}
 use Rattle.propagate.specs.Propagate.{propagated-paper, counters-of}
@@ -79,11 +79,11 @@ module _ (w : List ℕ) (c : Counters) (h : Whole base w (counted c)) where
   -- ---- bounds, of written sentences: those of the set as written, constant included
 
   pub bounds-mean : (n : ℕ) (ss : List Sentence) → Each (WellFormed n) ss → theory-of w ≡ rules-of ss → (k : ℕ) (r : Bounds) → ReadsBounds w c k r → r .code ≡ 0
-      → (v : Extended) × (v′ : Extended) × (bounds-paper r ≡ paper (between v v′)) × Bounded ss (trail (rows-of w)) k v v′
+      → (v : Extended) × (v′ : Extended) × (bounds-paper r ≡ paper (reported (between v v′))) × Bounded ss (trail (rows-of w)) k v v′
   bounds-mean n ss well same k r a z =
       let q = area-state base w in
-      let e : reply q (bounds k) .answer ≡ effect q (bounds k) .answer =
-      ap {A = Outcome} (λ o. o .answer) (reply-effect q (bounds k) (ap {A = Paper} (λ p. p .code) (sym (a .told h)) ∙ z)) in (
+      let e : reply q (report (bounds k) 0) .answer ≡ effect q (report (bounds k) 0) .answer =
+      ap {A = Outcome} (λ o. o .answer) (reply-effect q (report (bounds k) 0) (ap {A = Paper} (λ p. p .code) (sym (a .told h)) ∙ z)) in (
         _,
         _,
         a .told h ∙ ap paper e,
@@ -93,14 +93,11 @@ module _ (w : List ℕ) (c : Counters) (h : Whole base w (counted c)) where
   -- ---- the explanation of a conflict
 
   module _ (k : ℕ) (old new : List ℤ) (r : Listed) (a : ListsConflict w c k old new r) (z : r .code ≡ 0) where
-    abbrev asked : Call
-    asked = explain-conflict k (length old)
-
     abbrev ls : List ℤ
-    ls = result (area-state base w) asked
+    ls = list-of (result (area-state base w) (explain-conflict k))
 
-    here : reply (area-state base w) asked .answer ≡ listed ls
-    here = listed-here base w (counted c) h asked old new r a z refl
+    here : reply (area-state base w) (report (explain-conflict k) (length old)) .answer ≡ reported (listed ls)
+    here = reported-here base w (counted c) h (explain-conflict k) old new (listed-paper r) a z
 
     table-means : {ss : List Sentence} → Stores w ss → ExplainsConflict ss (rows-of w) k ls
     table-means as-rules = explain.explain-conflict-means base w (counted c) h k (length old) ls here
@@ -109,4 +106,4 @@ module _ (w : List ℕ) (c : Counters) (h : Whole base w (counted c)) where
     -- a clause that its sentence alone entails, all of whose literals are false on the trail
     pub explain-conflict-means : (ss : List Sentence) → Stores w ss → ExplainsConflict ss (rows-of w) k (take (r .value) new)
     explain-conflict-means ss stores =
-        subst (ExplainsConflict ss (rows-of w) k) (sym (taken base w (counted c) h asked old new r a z refl)) (table-means stores)
+        subst (ExplainsConflict ss (rows-of w) k) (sym (taken base w (counted c) h (explain-conflict k) old new (listed-paper r) a z)) (table-means stores)

@@ -2,12 +2,11 @@
 -- `w` and `w′` are the words before and after, `c` the counters that the call got.
 use mathlib.Core.List.{List}
 use Prim.Native.Nat.{ℕ}
-use lib.ListN.{length}
 use lib.IntN.{ℤ}
 use Rattle.types.specs.Limits.{base}
 use Rattle.types.specs.declared.Counters.{Counters}
-use Rattle.book.specs.Table.{give, open-level, take-back, propagate, search, bounds, explain, explain-conflict, origin, list-trail}
-use Rattle.calls.specs.Calls.{counted, done-paper, bounds-paper, listed-paper, Answered, Acts, Lists}
+use Rattle.book.specs.Table.{give, open-level, take-back, propagate, search, bounds, explain, explain-conflict, origin, list-trail, report}
+use Rattle.calls.specs.Calls.{counted, done-paper, bounds-paper, listed-paper, Answered, Acts, Reports}
 use Rattle.propagate.specs.Propagate.{propagated-paper, counters-of, Named}
 use Rattle.propagate.specs.declared.Propagated.{Propagated}
 use Rattle.search.specs.Search.{searched-paper}
@@ -32,17 +31,17 @@ abbrev pub SearchesFor : (w w′ : List ℕ) → Counters → (ls : List ℤ) �
 SearchesFor w w′ c ls r = Acts base w w′ (counted c) (counted (r .counters)) (search ls) (searched-paper r)
 
 abbrev pub ReadsBounds : (w : List ℕ) → Counters → ℕ → Bounds → Type 0
-ReadsBounds w c k r = Answered base w (counted c) (bounds k) (bounds-paper r)
+ReadsBounds w c k r = Answered base w (counted c) (report (bounds k) 0) (bounds-paper r)
 
 -- `old` and `new` are the lent list before and after
 abbrev pub ListsExplanation : (w : List ℕ) → Counters → ℤ → (old new : List ℤ) → Listed → Type 0
-ListsExplanation w c l old new r = Lists base w (counted c) (explain l (length old)) old new (listed-paper r)
+ListsExplanation w c l old new r = Reports base w (counted c) (explain l) old new (listed-paper r)
 
 abbrev pub ListsConflict : (w : List ℕ) → Counters → ℕ → (old new : List ℤ) → Listed → Type 0
-ListsConflict w c k old new r = Lists base w (counted c) (explain-conflict k (length old)) old new (listed-paper r)
+ListsConflict w c k old new r = Reports base w (counted c) (explain-conflict k) old new (listed-paper r)
 
 abbrev pub ListsOrigin : (w : List ℕ) → Counters → ℤ → (old new : List ℤ) → Listed → Type 0
-ListsOrigin w c l old new r = Lists base w (counted c) (origin l (length old)) old new (listed-paper r)
+ListsOrigin w c l old new r = Reports base w (counted c) (origin l) old new (listed-paper r)
 
 abbrev pub ListsTrail : (w : List ℕ) → Counters → (old new : List ℤ) → Listed → Type 0
-ListsTrail w c old new r = Lists base w (counted c) (list-trail (length old)) old new (listed-paper r)
+ListsTrail w c old new r = Reports base w (counted c) list-trail old new (listed-paper r)

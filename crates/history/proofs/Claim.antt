@@ -12,7 +12,7 @@ use Rattle.types.specs.declared.Counters as t
 use Rattle.numbers.specs.Words.{unword}
 use Rattle.meaning.specs.Meaning.{Sentence, Each}
 use Rattle.book.specs.Rows.{Row, trail}
-use Rattle.book.specs.Table.{Call, explain, explain-conflict, origin, Answer, listed, paper, list-after, Judged, State, result, effect, reply}
+use Rattle.book.specs.Table.{Report, explain, explain-conflict, origin, report, Result, Answer, reported, list-of, paper, list-after, Judged, State, result, reply}
 use Rattle.book.specs.Book.{Counters, JudgesAll, WellFormed, Book, fresh, book-state, answers, played}
 use Rattle.book.specs.Means.{Bounded, Explains, ExplainsConflict, OriginList}
 use Rattle.book.proofs.Tests.{reply-is}
@@ -22,9 +22,9 @@ use Rattle.book.proofs.Reports.{explain-means, explain-conflict-means, origin-m
 use Rattle.book.proofs.Same.{answers-same, played-same}
 use Rattle.area.specs.Layout.{atoms-of, level-of, rows-of, record-at, least-at, greatest-at}
 use Rattle.calls.specs.declared.Listed.{Listed}
-use Rattle.calls.specs.Calls.{counted, listed-paper, area-state, Lists}
+use Rattle.calls.specs.Calls.{counted, listed-paper, area-state, Reports}
 use Rattle.calls.proofs.Acting.{answered-whole}
-use Rattle.calls.proofs.Effects.{listed-here, taken}
+use Rattle.calls.proofs.Effects.{reported-here, taken}
 use Rattle.search.proofs.Moves.{rows-count}
 use Rattle.reports.proofs.Replies.{bounds-stored}
 use Rattle.reports.proofs.Meaning.{bounds-mean}
@@ -61,32 +61,31 @@ module _ (n : ℕ) (ss : List Sentence) (well : Each (WellFormed n) ss) (w : Lis
       subst (λ i. Bounded ss (trail (rows-of w)) (suc k) (unword (least-at w i)) (unword (greatest-at w i))) (ap₂ {A = ℕ} {B = ℕ} record-at (s .atoms) e)
       (bounds-mean base w (counted c) (s .whole) n ss well (s .theory) (suc k) (unword (least-at w at)) (unword (greatest-at w at)) b)
 
-  -- a list that is handed back is the book's answer, and stands in front: what holds of the book's answer holds of it
-  module _ (x : Call) (old new : List ℤ) (r : Listed) (a : Lists base w (counted c) x old new (listed-paper r)) (z : r .code ≡ 0)
-      (f : effect q x .answer ≡ listed (result q x)) where
-    reported : (P : List ℤ → Type 0) → ((ls : List ℤ) → reply book-q x .answer ≡ listed ls → P ls) → P (take (r .value) new)
-    reported P means =
-        subst P (sym (taken base w (counted c) (s .whole) x old new r a z f))
-        (means (result q x) (ap {A = State} (λ y. reply y x .answer) (sym book-state-is) ∙ listed-here base w (counted c) (s .whole) x old new r a z f))
+  -- a list that is handed back is of the book's result, and stands in front: what holds of the book's result holds of it
+  module _ (x : Report) (old new : List ℤ) (r : Listed) (a : Reports base w (counted c) x old new (listed-paper r)) (z : r .code ≡ 0) where
+    told : (P : List ℤ → Type 0) → (reply book-q (report x (length old)) .answer ≡ reported (result q x) → P (list-of (result q x))) → P (take (r .value) new)
+    told P means =
+        subst P (sym (taken base w (counted c) (s .whole) x old new (listed-paper r) a z))
+        (means (ap {A = State} (λ y. reply y (report x (length old)) .answer) (sym book-state-is) ∙ reported-here base w (counted c) (s .whole) x old new (listed-paper r) a z))
 
   explained-right : (l : ℤ) (old new : List ℤ) (r : Listed) → ListsExplanation w c l old new r → r .code ≡ 0 → Explains ss (rows-of w) l (take (r .value) new)
   explained-right l old new r a z =
-      reported (explain l (length old)) old new r a z refl (Explains ss (rows-of w) l)
-      (explain-means base (computed ss) (book-of n ss w) (all-judged n ss well) (s .sound) (length w) (counted c) (all-blind n ss well) l (length old))
+      told (explain l) old new r a z (Explains ss (rows-of w) l)
+      (explain-means base (computed ss) (book-of n ss w) (all-judged n ss well) (s .sound) (length w) (counted c) (all-blind n ss well) l (length old) (list-of (result q (explain l))))
 
   conflict-right : (k : ℕ) (old new : List ℤ) (r : Listed) → ListsConflict w c k old new r → r .code ≡ 0 → ExplainsConflict ss (rows-of w) k (take (r .value) new)
   conflict-right k old new r a z =
-      reported (explain-conflict k (length old)) old new r a z refl (ExplainsConflict ss (rows-of w) k)
-      (explain-conflict-means base (computed ss) (book-of n ss w) (all-judged n ss well) (s .sound) (length w) (counted c) (all-blind n ss well) k (length old))
+      told (explain-conflict k) old new r a z (ExplainsConflict ss (rows-of w) k)
+      (explain-conflict-means base (computed ss) (book-of n ss w) (all-judged n ss well) (s .sound) (length w) (counted c) (all-blind n ss well) k (length old) (list-of (result q (explain-conflict k))))
 
   origin-right : (l : ℤ) (old new : List ℤ) (r : Listed) → ListsOrigin w c l old new r → r .code ≡ 0 → OriginList ss (rows-of w) l (take (r .value) new)
   origin-right l old new r a z =
-      reported (origin l (length old)) old new r a z refl (OriginList ss (rows-of w) l)
-      (origin-means base (computed ss) (book-of n ss w) (all-judged n ss well) (s .sound) (length w) (counted c) (all-blind n ss well) l (length old))
+      told (origin l) old new r a z (OriginList ss (rows-of w) l)
+      (origin-means base (computed ss) (book-of n ss w) (all-judged n ss well) (s .sound) (length w) (counted c) (all-blind n ss well) l (length old) (list-of (result q (origin l))))
 
   origin-has-answer : (l : ℤ) (old : List ℤ) → (new : List ℤ) × (r : Listed) × ListsOrigin w c l old new r
   origin-has-answer l old =
-      let x = origin l (length old) in
+      let x = report (origin l) (length old) in
       let a = reply q x .answer in
       let e = reply-is (λ o. listed-paper (printed (o .answer)) ≡ paper (o .answer)) q x (λ i k. refl) (λ p. refl) in (
         list-after a old,

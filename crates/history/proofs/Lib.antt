@@ -1,6 +1,7 @@
-pub mod Sentences
+pub mod Claim
+pub mod Public
 pub mod Replies
-pub mod Ways
+pub mod Sentences
 pub mod Stands
 pub mod Steps
-pub mod Claim
+pub mod Ways

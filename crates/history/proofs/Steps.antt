@@ -22,10 +22,10 @@ use Rattle.book.proofs.Keeps.{turn-sound}
 use Rattle.area.specs.Layout.{level-of, rows-of}
 use Rattle.area.specs.Whole.{Whole}
 use Rattle.calls.specs.Calls.{counted, area-state}
-use Rattle.history.specs.History.{Event, Calls, none, next, asked-in, HandedBack}
+use Rattle.history.specs.History.{Event, Called, Calls, none, next, asked-in, HandedBack}
 use Rattle.history.proofs.Sentences.{need-is}
 use Rattle.history.proofs.Replies.{nine}
-use Rattle.history.proofs.Ways.{Way, way, asked-is, way-broken, way-whole}
+use Rattle.history.proofs.Ways.{asked-is, called-broken, called-whole}
 use Rattle.history.proofs.Stands.{computed, book-of, Stands, whole-fits, fits-whole, state-is, stands-grown, book-grown, stands-cut, book-cut, cut-fails, cut-broken}
 
 module _ (n : ℕ) (ss : List Sentence) (well : Each (WellFormed n) ss) where
@@ -45,9 +45,9 @@ module _ (n : ℕ) (ss : List Sentence) (well : Each (WellFormed n) ss) where
 
   module _ (w w′ part part′ : List ℕ) (c d c′ : t.Counters) (e : Event) (s : Stands n ss w (counted c)) where
     step-broken : (part′ ≡ part → w′ ≡ w) → ¬ (Whole base part (counted d)) → fits (book-of n ss w) (length part) (counted d) ≡ false
-        → Way part c d part′ e c′ → Stepped w w′ e c′
+        → Called part c d part′ e c′ → Stepped w w′ e c′
     step-broken f b fails p =
-        let k = way-broken b p in
+        let k = called-broken b p in
         let same : w′ ≡ w = f (k .area) in
         let o : turned w (e .asked) ≡ unchanged (area-state base w) (refused 9 0) =
         ap {A = Asked} (turned w) (asked-is p)
@@ -64,10 +64,10 @@ module _ (n : ℕ) (ss : List Sentence) (well : Each (WellFormed n) ss) where
   -- ---- whole: the table looks at one state
 
   step-whole : (w w′ : List ℕ) (c d c′ : t.Counters) (e : Event) → Stands n ss w (counted c) → fits (book-of n ss w) (length w) (counted d) ≡ true
-      → Way w c d w′ e c′ → Stepped w w′ e c′
+      → Called w c d w′ e c′ → Stepped w w′ e c′
   step-whole w w′ c d c′ e s f p =
       let g = fits-whole n ss w (counted c) s (counted d) f in
-      let r = way-whole w c d (s .whole) g (up-to-all n ss (level-of w) (level-of w) (rows-of w) (omega arith) (s .sound)) p in
+      let r = called-whole w c d (s .whole) g (up-to-all n ss (level-of w) (level-of w) (rows-of w) (omega arith) (s .sound)) p in
       let o : reply (area-state base w) (e .asked .call) ≡ turned w (e .asked) =
       ap {A = State} (λ q. reply q (e .asked .call)) (state-is n ss w (counted c) s (length w) (counted d) f) ∙ ap {A = Asked} (turned w) (sym (asked-is p)) in
       let b : after (book-of n ss w) (turned w (e .asked)) ≡ book-of n ss w′ =
@@ -89,7 +89,7 @@ module _ (n : ℕ) (ss : List Sentence) (well : Each (WellFormed n) ss) where
 
   -- ---- any call
 
-  step-uncut : (w w′ : List ℕ) (c d c′ : t.Counters) (e : Event) → Stands n ss w (counted c) → Way w c d w′ e c′ → Stepped w w′ e c′
+  step-uncut : (w w′ : List ℕ) (c d c′ : t.Counters) (e : Event) → Stands n ss w (counted c) → Called w c d w′ e c′ → Stepped w w′ e c′
   step-uncut w w′ c d c′ e s p = go (fits (book-of n ss w) (length w) (counted d)) refl
     where
       go : (b : Bool) → fits (book-of n ss w) (length w) (counted d) ≡ b → Stepped w w′ e c′
@@ -98,7 +98,7 @@ module _ (n : ℕ) (ss : List Sentence) (well : Each (WellFormed n) ss) where
 
   -- a call on the first part of the words does with it what it would do with all of them
   step-cut : (part part′ rest : List ℕ) (c d c′ : t.Counters) (e : Event) → Stands n ss (part ++ rest) (counted c) → need n ss ≤ length part
-      → Way part c d part′ e c′ → Stepped (part ++ rest) (part′ ++ rest) e c′
+      → Called part c d part′ e c′ → Stepped (part ++ rest) (part′ ++ rest) e c′
   step-cut part part′ rest c d c′ e s l p =
       let x = step-uncut part part′ c d c′ e (stands-cut n ss part rest (counted c) s l) p in
       let m : need n ss ≤ length part′ = omega (arith, x .size) in
@@ -113,9 +113,9 @@ module _ (n : ℕ) (ss : List Sentence) (well : Each (WellFormed n) ss) where
         book = ap₂ {A = Book} {B = Outcome} after (sym (book-cut n ss part rest (counted c) s l)) (sym b) ∙ x .book ∙ book-grown n ss part′ rest (counted c′) (x .stands);
       }
 
-  step : (part part′ rest : List ℕ) (c d c′ : t.Counters) (e : Event) → Stands n ss (part ++ rest) (counted c) → Way part c d part′ e c′
+  called : (part part′ rest : List ℕ) (c d c′ : t.Counters) (e : Event) → Stands n ss (part ++ rest) (counted c) → Called part c d part′ e c′
       → Stepped (part ++ rest) (part′ ++ rest) e c′
-  step part part′ rest c d c′ e s p =
+  called part part′ rest c d c′ e s p =
       ⊎-elim
       (λ (l : need n ss ≤ length part). step-cut part part′ rest c d c′ e s l p)
       (λ (l : length part < need n ss).
@@ -136,7 +136,7 @@ module _ (n : ℕ) (ss : List Sentence) (well : Each (WellFormed n) ss) where
   unfolding answers played
   followed none s = record { stands = s; size = refl; past-need = refl; handed = tt; book = refl }
   followed {w} (next {w₁ = w₁} {c = c} {d = d} {c₁ = c₁} {e = e} {es = es} part part₁ rest i p j more) s =
-      let cut = step part part₁ rest c d c₁ e (subst (λ v. Stands n ss v (counted c)) i s) (way p) in
+      let cut = called part part₁ rest c d c₁ e (subst (λ v. Stands n ss v (counted c)) i s) p in
       let x : Stepped w w₁ e c₁ = subst (λ v. Stepped v w₁ e c₁) (sym i) (subst (λ v. Stepped (part ++ rest) v e c₁) (sym j) cut) in
       let y = followed more (x .stands) in
       record {

@@ -1,4 +1,4 @@
--- The claim about every list of calls after an accepted load. Its steps are the public contracts; its answers are the book's.
+-- The claim about every list of calls after an accepted load. Its calls keep the public contracts; its answers are the book's.
 use mathlib.Core.Path.{_≡_}
 use mathlib.Core.Bool.{cond}
 use mathlib.Core.List.{List, [], _∷_, _++_}
@@ -11,23 +11,17 @@ use Rattle.types.specs.declared.Counters as t
 use Rattle.numbers.specs.Words.{unword}
 use Rattle.meaning.specs.Meaning.{Sentence}
 use Rattle.book.specs.Rows.{trail}
-use Rattle.book.specs.Table.{Call, give, open-level, take-back, propagate, search, bounds, explain, explain-conflict, origin, list-trail, Answer, Paper, paper, list-after, Judged}
+use Rattle.book.specs.Table.{Step, Report, Call, step, report, Answer, Paper, paper, list-after, Judged}
 use Rattle.book.specs.Book.{Counters, JudgesAll, judged-all, rules-of, fresh, need, Asked, answers, played}
 use Rattle.book.specs.Means.{Bounded, Explains, ExplainsConflict, OriginList}
 use Rattle.area.specs.Layout.{atoms-of, level-of, rows-of, theory-of, record-at, least-at, greatest-at}
 use Rattle.area.specs.Whole.{Whole}
-use Rattle.calls.specs.declared.Done.{Done}
-use Rattle.calls.specs.declared.Bounds.{Bounds}
 use Rattle.calls.specs.declared.Listed.{Listed}
-use Rattle.calls.specs.Calls.{counted, done-paper, bounds-paper, listed-paper}
-use Rattle.propagate.specs.declared.Propagated.{Propagated}
-use Rattle.propagate.specs.Propagate.{propagated-paper, counters-of}
-use Rattle.search.specs.declared.Searched.{Searched}
-use Rattle.search.specs.Search.{searched-paper}
+use Rattle.calls.specs.Calls.{counted, Acts, Reports}
 use Rattle.columns.specs.Columns.{Columns, all-written, sentences-in}
 use Rattle.columns.specs.declared.Answer as c
 use Rattle.load.specs.Load.{Loads}
-use Rattle.dalelead.specs.Public.{Gives, Opens, TakesBack, Propagates, SearchesFor, ReadsBounds, ListsExplanation, ListsConflict, ListsOrigin, ListsTrail}
+use Rattle.dalelead.specs.Public.{ListsExplanation, ListsConflict, ListsOrigin}
 
 -- ---- one call
 
@@ -46,24 +40,12 @@ abbrev pub held : Paper → t.Counters → t.Counters → t.Counters
 held p c c′ = cond (eqb (p .code) 0) c′ c
 
 -- a call on the words w with the counters d keeps its public contract: the words afterwards, the event, and the counters that its caller
--- then holds, who held c
-pub data Step (w : List ℕ) (c d : t.Counters) : List ℕ → Event → t.Counters → Type 0 where
-  gives : {w′ : List ℕ} (l : ℤ) (r : Done) → Gives w w′ d l r → Step w c d w′ (event (give l) w d (done-paper r) [] []) (held (done-paper r) c (r .counters))
-  opens : {w′ : List ℕ} (r : Done) → Opens w w′ d r → Step w c d w′ (event open-level w d (done-paper r) [] []) (held (done-paper r) c (r .counters))
-  takes-back : {w′ : List ℕ} (k : ℕ) (r : Done) → TakesBack w w′ d k r
-      → Step w c d w′ (event (take-back k) w d (done-paper r) [] []) (held (done-paper r) c (r .counters))
-  propagates : {w′ : List ℕ} (r : Propagated) → Propagates w w′ d r
-      → Step w c d w′ (event propagate w d (propagated-paper r) [] []) (held (propagated-paper r) c (counters-of r))
-  searches : {w′ : List ℕ} (ls : List ℤ) (r : Searched) → SearchesFor w w′ d ls r
-      → Step w c d w′ (event (search ls) w d (searched-paper r) [] []) (held (searched-paper r) c (r .counters))
-  reads-bounds : (k : ℕ) (r : Bounds) → ReadsBounds w d k r → Step w c d w (event (bounds k) w d (bounds-paper r) [] []) c
-  lists-explanation : (l : ℤ) (old new : List ℤ) (r : Listed) → ListsExplanation w d l old new r
-      → Step w c d w (event (explain l (length old)) w d (listed-paper r) old new) c
-  lists-conflict : (k : ℕ) (old new : List ℤ) (r : Listed) → ListsConflict w d k old new r
-      → Step w c d w (event (explain-conflict k (length old)) w d (listed-paper r) old new) c
-  lists-origin : (l : ℤ) (old new : List ℤ) (r : Listed) → ListsOrigin w d l old new r
-      → Step w c d w (event (origin l (length old)) w d (listed-paper r) old new) c
-  lists-trail : (old new : List ℤ) (r : Listed) → ListsTrail w d old new r → Step w c d w (event (list-trail (length old)) w d (listed-paper r) old new) c
+-- then holds, who held c. proofs/Public.antt says of each public contract that it is such a call
+pub data Called (w : List ℕ) (c d : t.Counters) : List ℕ → Event → t.Counters → Type 0 where
+  acts : {w′ : List ℕ} (x : Step) (p : Paper) (c′ : t.Counters) → Acts base w w′ (counted d) (counted c′) x p
+      → Called w c d w′ (event (step x) w d p [] []) (held p c c′)
+  reports : (x : Report) (p : Paper) (old new : List ℤ) → Reports base w (counted d) x old new p
+      → Called w c d w (event (report x (length old)) w d p old new) c
 
 -- ---- a list of calls, from the words and counters before it to those after it
 
@@ -71,7 +53,7 @@ pub data Calls : List ℕ → t.Counters → List Event → List ℕ → t.Count
   none : {w : List ℕ} {c : t.Counters} → Calls w c [] w c
   -- the next call gets any counters, and the words that are there or any first part of them; the rest of them stays as it is
   next : {w w₁ w₂ : List ℕ} {c d c₁ c₂ : t.Counters} {e : Event} {es : List Event} (part part₁ rest : List ℕ)
-      → w ≡ part ++ rest → Step part c d part₁ e c₁ → w₁ ≡ part₁ ++ rest → Calls w₁ c₁ es w₂ c₂ → Calls w c (e ∷ es) w₂ c₂
+      → w ≡ part ++ rest → Called part c d part₁ e c₁ → w₁ ≡ part₁ ++ rest → Calls w₁ c₁ es w₂ c₂ → Calls w c (e ∷ es) w₂ c₂
 
 -- ---- the claim
 

@@ -3,12 +3,9 @@
 use mathlib.Core.Path.{_≡_, refl, sym, _∙_, ap, subst}
 use mathlib.Core.List.{List, [], _∷_, _++_}
 use Prim.Native.Nat.{ℕ, _+_}
-use native.Mathlib.Omega.{arith}
 use lib.ListN.{length, drop, length-append}
 use lib.Seq.{drop-append-seam}
-use lib.IntN.{ℤ}
 use Rattle.types.specs.Limits.{base}
-use Rattle.types.specs.declared.Counters.{Counters}
 use Rattle.decide.specs.Below.{sum-first}
 use Rattle.numbers.specs.Words.{unbias, literal-of}
 use Rattle.meaning.specs.Examples.{m4}
@@ -18,30 +15,17 @@ use Rattle.book.specs.Rows.{up-to, pick, causes, row-of, numbered, any, comes-f
 use Rattle.book.specs.Table.{speech, run, reply}
 use Rattle.book.specs.Examples.{ring}
 use Rattle.area.specs.Layout.{rows-from, value-word, entries-of, rules-from, entries-before}
-use Rattle.calls.specs.declared.Done.{Done}
-use Rattle.calls.specs.declared.Bounds.{Bounds}
-use Rattle.calls.specs.declared.Listed.{Listed}
-use Rattle.propagate.specs.declared.Propagated.the-variants.{Still, Conflict}
 use Rattle.whole.specs.Parts.{counters}
 use Rattle.columns.specs.Columns.{Columns, paired, written-from, sentences-in}
 use Rattle.columns.specs.Refusals.{some, both-signs, all-refusals, first-refusal, load-answer}
 use Rattle.load.specs.Load.{Loaded, Loads}
 use Rattle.load.specs.Examples.{given}
-use Rattle.history.specs.History.{Calls, none, gives, opens, takes-back, propagates, reads-bounds, lists-explanation, lists-conflict, lists-origin, lists-trail}
+use Rattle.history.specs.History.{acts, reports, Calls, none}
 use Rattle.history_examples.specs.Examples.{counters-at, sevens, spare, load-done, FromLoad, events, m11-loaded, m11-one, m11-two, m11-opened, m11-derived, m11-against, m11-again, m11-turns, ring-columns, m12-loaded, m12-given, m12-derived, m12-turns}
 use Rattle.history_examples.proofs.Decide.{decided, miscounted, cut-short}
-use Rattle.history_examples.proofs.Steps.{answered, moving, keeping, refusing, listing, refusing-list, then, then-cut}
+use Rattle.history_examples.proofs.Steps.{moving, keeping, refusing, listing, refusing-list, then, then-cut}
 
--- ---- the answers that the code hands back
-
-abbrev done-as : ℕ → Counters → Done
-done-as code c = record { code = code; counters = c }
-
-abbrev listed-as : ℕ → ℕ → Listed
-listed-as code value = record { code = code; value = value }
-
-abbrev bounds-as : ℕ → ℕ → ℤ → ℕ → ℤ → Bounds
-bounds-as code lm l gm g = record { code = code; «least_mark» = lm; least = l; «greatest_mark» = gm; greatest = g }
+-- ---- an accepted load
 
 accepting : {w₀ w : List ℕ} {n : ℕ} {cs : Columns} (size : ℕ) → length w₀ ≡ size → load-done ≡ load-answer base size n cs → Loaded base w₀ w n cs
     → Loads base w₀ w n cs load-done
@@ -60,28 +44,28 @@ module _ (front : List ℕ) (k : ℕ) (e : length front ≡ k) where
 m11-calls : Calls m11-loaded (counters-at 0 0) (events m11-turns) m11-again (counters-at 3 0)
 unfolding rows-from value-word entries-of rules-from entries-before unbias literal-of gather standing extreme first-due says up-to pick causes row-of numbered any comes-from in-order flat speech run reply paired written-from sentences-in sum-first
 m11-calls =
-    then m11-one (gives _ (done-as _ (counters-at 1 0)) (moving tt refl tt tt refl))
-    (then m11-one (gives _ (done-as _ (counters-at 1 0)) (keeping tt refl tt))
-    (then m11-one (gives _ (done-as _ (counters-at 0 0)) (refusing (miscounted base _ _ tt) refl))
-    (then m11-two (gives _ (done-as _ (counters-at 2 0)) (moving tt refl tt tt refl))
-    (then m11-opened (opens (done-as _ (counters-at 2 1)) (moving tt refl tt tt refl))
-    (then-cut 24 m11-derived refl (propagates (Still _ (counters-at 3 1)) (moving tt refl tt tt refl, tt))
-    (then m11-derived (lists-trail (sevens 9) _ (listed-as _ _) (listing tt refl refl))
-    (then m11-derived (lists-explanation _ (sevens 4) _ (listed-as _ _) (listing tt refl refl))
-    (then m11-derived (lists-origin _ (sevens 1) _ (listed-as _ _) (listing tt refl refl))
-    (then-cut 23 m11-derived refl (takes-back _ (done-as _ (counters-at 3 1)) (refusing (cut-short base _ _ tt) refl))
-    (then m11-derived (takes-back _ (done-as _ (counters-at 3 1)) (keeping tt refl tt))
-    (then m11-two (takes-back _ (done-as _ (counters-at 2 0)) (moving tt refl tt tt refl))
-    (then m11-two (reads-bounds _ (bounds-as _ _ _ _ _) (answered tt refl))
-    (then m11-two (takes-back _ (done-as _ (counters-at 2 0)) (keeping tt refl tt))
-    (then m11-opened (opens (done-as _ (counters-at 2 1)) (moving tt refl tt tt refl))
-    (then m11-against (gives _ (done-as _ (counters-at 3 1)) (moving tt refl tt tt refl))
-    (then m11-against (propagates (Conflict _ _ (counters-at 3 1)) (moving tt refl tt tt refl, λ e. omega arith))
-    (then m11-against (lists-conflict _ (sevens 3) _ (listed-as _ _) (listing tt refl refl))
-    (then m11-two (takes-back _ (done-as _ (counters-at 2 0)) (moving tt refl tt tt refl))
-    (then m11-again (propagates (Still _ (counters-at 3 0)) (moving tt refl tt tt refl, tt))
-    (then m11-again (lists-trail (sevens 9) _ (listed-as _ _) (listing tt refl refl))
-    (then m11-again (lists-origin _ (sevens 3) _ (listed-as _ _) (listing tt refl refl))
+    then m11-one (acts _ _ (counters-at 1 0) (moving tt refl tt tt refl))
+    (then m11-one (acts _ _ (counters-at 1 0) (keeping tt refl tt))
+    (then m11-one (acts _ _ (counters-at 0 0) (refusing (miscounted base _ _ tt) refl))
+    (then m11-two (acts _ _ (counters-at 2 0) (moving tt refl tt tt refl))
+    (then m11-opened (acts _ _ (counters-at 2 1) (moving tt refl tt tt refl))
+    (then-cut 24 m11-derived refl (acts _ _ (counters-at 3 1) (moving tt refl tt tt refl))
+    (then m11-derived (reports _ _ (sevens 9) _ (listing tt refl refl))
+    (then m11-derived (reports _ _ (sevens 4) _ (listing tt refl refl))
+    (then m11-derived (reports _ _ (sevens 1) _ (listing tt refl refl))
+    (then-cut 23 m11-derived refl (acts _ _ (counters-at 3 1) (refusing (cut-short base _ _ tt) refl))
+    (then m11-derived (acts _ _ (counters-at 3 1) (keeping tt refl tt))
+    (then m11-two (acts _ _ (counters-at 2 0) (moving tt refl tt tt refl))
+    (then m11-two (reports _ _ [] _ (listing tt refl refl))
+    (then m11-two (acts _ _ (counters-at 2 0) (keeping tt refl tt))
+    (then m11-opened (acts _ _ (counters-at 2 1) (moving tt refl tt tt refl))
+    (then m11-against (acts _ _ (counters-at 3 1) (moving tt refl tt tt refl))
+    (then m11-against (acts _ _ (counters-at 3 1) (moving tt refl tt tt refl))
+    (then m11-against (reports _ _ (sevens 3) _ (listing tt refl refl))
+    (then m11-two (acts _ _ (counters-at 2 0) (moving tt refl tt tt refl))
+    (then m11-again (acts _ _ (counters-at 3 0) (moving tt refl tt tt refl))
+    (then m11-again (reports _ _ (sevens 9) _ (listing tt refl refl))
+    (then m11-again (reports _ _ (sevens 3) _ (listing tt refl refl))
     none)))))))))))))))))))))
 
 module _ (front : List ℕ) (e : length front ≡ 24) where
@@ -106,18 +90,18 @@ module _ (front : List ℕ) (e : length front ≡ 24) where
 m12-calls : Calls m12-loaded (counters-at 0 0) (events m12-turns) m12-derived (counters-at 2 0)
 unfolding rows-from value-word entries-of rules-from entries-before unbias literal-of gather standing extreme first-due says pick causes row-of numbered any comes-from in-order flat speech run reply paired written-from sentences-in sum-first
 m12-calls =
-    then-cut 28 m12-given refl (gives _ (done-as _ (counters-at 1 0)) (moving tt refl tt tt refl))
-    (then m12-derived (propagates (Still _ (counters-at 2 0)) (moving tt refl tt tt refl, tt))
-    (then-cut 28 m12-derived refl (lists-trail (sevens 6) _ (listed-as _ _) (listing tt refl refl))
-    (then m12-derived (lists-explanation _ (sevens 2) _ (listed-as _ _) (listing tt refl refl))
-    (then m12-derived (lists-explanation _ (sevens 2) _ (listed-as _ _) (listing tt refl refl))
-    (then m12-derived (lists-origin _ (sevens 0) _ (listed-as _ _) (listing tt refl refl))
-    (then m12-derived (lists-origin _ (sevens 1) _ (listed-as _ _) (listing tt refl refl))
-    (then-cut 27 m12-derived refl (lists-origin _ (sevens 1) _ (listed-as _ _) (refusing-list (cut-short base _ _ tt) refl))
-    (then m12-derived (lists-conflict _ (sevens 1) _ (listed-as _ _) (listing tt refl refl))
-    (then m12-derived (reads-bounds _ (bounds-as _ _ _ _ _) (answered tt refl))
-    (then m12-derived (reads-bounds _ (bounds-as _ _ _ _ _) (answered tt refl))
-    (then m12-derived (propagates (Still _ (counters-at 2 0)) (moving tt refl tt tt refl, tt))
+    then-cut 28 m12-given refl (acts _ _ (counters-at 1 0) (moving tt refl tt tt refl))
+    (then m12-derived (acts _ _ (counters-at 2 0) (moving tt refl tt tt refl))
+    (then-cut 28 m12-derived refl (reports _ _ (sevens 6) _ (listing tt refl refl))
+    (then m12-derived (reports _ _ (sevens 2) _ (listing tt refl refl))
+    (then m12-derived (reports _ _ (sevens 2) _ (listing tt refl refl))
+    (then m12-derived (reports _ _ (sevens 0) _ (listing tt refl refl))
+    (then m12-derived (reports _ _ (sevens 1) _ (listing tt refl refl))
+    (then-cut 27 m12-derived refl (reports _ _ (sevens 1) _ (refusing-list (cut-short base _ _ tt) refl))
+    (then m12-derived (reports _ _ (sevens 1) _ (listing tt refl refl))
+    (then m12-derived (reports _ _ [] _ (listing tt refl refl))
+    (then m12-derived (reports _ _ [] _ (listing tt refl refl))
+    (then m12-derived (acts _ _ (counters-at 2 0) (moving tt refl tt tt refl))
     none)))))))))))
 
 module _ (front : List ℕ) (e : length front ≡ 28) where

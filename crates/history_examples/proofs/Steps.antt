@@ -5,17 +5,18 @@ use mathlib.Core.List.{List, [], _∷_, _++_, append-nil}
 use Prim.Native.Nat.{ℕ}
 use lib.ListN.{length, take, drop, take-append-drop}
 use lib.IntN.{ℤ}
-use lib.Dec.{T, T-not}
+use lib.Dec.{T}
 use Rattle.types.specs.Limits.{base}
 use Rattle.types.specs.declared.Counters as t
 use Rattle.meaning.specs.Merge.{Rule}
 use Rattle.book.specs.Rows.{Row}
-use Rattle.book.specs.Table.{Call, refused, Paper, paper, list-after, Outcome, reply}
+use Rattle.book.specs.Table.{Step, Report, step, report, refused, Paper, paper, list-after, Outcome, reply}
 use Rattle.book.specs.Book.{Counters}
 use Rattle.area.specs.Layout.{atoms-of, level-of, rows-of, theory-of, need-of}
 use Rattle.area.specs.Whole.{Whole}
-use Rattle.calls.specs.Calls.{area-state, Answered, keeps, Acts, Lists}
-use Rattle.history.specs.History.{Event, Step, Calls, next}
+use Rattle.calls.specs.Calls.{area-state, keeps, Acts, Reports}
+use Rattle.calls.proofs.Acting.{answered-nine, answered-whole, acts-broken, acts-kept, acts-moved}
+use Rattle.history.specs.History.{Event, Called, Calls, next}
 use Rattle.history_examples.specs.Examples.{counters-at}
 use Rattle.history_examples.proofs.Test.{whole-test}
 use Rattle.history_examples.proofs.Decide.{decided}
@@ -39,63 +40,48 @@ must-show w o =
 
 -- ---- contracts
 
-module _ {w : List ℕ} {c : Counters} {x : Call} {p : Paper} where
-  pub answered : T (whole-test base w c) → p ≡ paper (reply (area-state base w) x .answer) → Answered base w c x p
-  answered h e = record { broken = λ n. absurd (n (decided base w c h)); told = λ h. e }
-
+module _ {w : List ℕ} {c : Counters} {x : Step} {p : Paper} where
   -- not refused: the words w′ and counters c′
-  pub moving : {w′ : List ℕ} {c′ : Counters} → T (whole-test base w c) → p ≡ paper (reply (area-state base w) x .answer)
-      → T (not (keeps (area-state base w) x)) → T (whole-test base w′ c′) → words-show w w′ ≡ must-show w (reply (area-state base w) x) → Acts base w w′ c c′ x p
-  moving {w′} {c′} h e k h′ l = record {
-    answer = answered h e;
-    broken = λ n. absurd (n (decided base w c h));
-    kept = λ _ y. absurd (T-not (keeps (area-state base w) x) k y);
-    moved = λ _ y. record {
-      whole = decided base w′ c′ h′;
-      atoms = ap (λ z. z .atoms) l;
-      theory = ap (λ z. z .theory) l;
-      level = ap (λ z. z .level) l;
-      rows = ap (λ z. z .rows) l;
-      size = ap (λ z. z .size) l;
-      rest = ap (λ z. z .rest) l;
-    };
-  }
+  pub moving : {w′ : List ℕ} {c′ : Counters} → T (whole-test base w c) → p ≡ paper (reply (area-state base w) (step x) .answer)
+      → T (not (keeps (area-state base w) x)) → T (whole-test base w′ c′) → words-show w w′ ≡ must-show w (reply (area-state base w) (step x))
+      → Acts base w w′ c c′ x p
+  moving {w′} {c′} h e k h′ l = acts-moved base w c x p w′ c′ (decided base w c h) k e (record {
+    whole = decided base w′ c′ h′;
+    atoms = ap (λ z. z .atoms) l;
+    theory = ap (λ z. z .theory) l;
+    level = ap (λ z. z .level) l;
+    rows = ap (λ z. z .rows) l;
+    size = ap (λ z. z .size) l;
+    rest = ap (λ z. z .rest) l;
+  })
 
   -- refused by the table, or with nothing to do
-  pub keeping : T (whole-test base w c) → p ≡ paper (reply (area-state base w) x .answer) → T (keeps (area-state base w) x) → Acts base w w c c x p
-  keeping h e k = record {
-    answer = answered h e;
-    broken = λ n. (refl, refl);
-    kept = λ _ y. (refl, refl);
-    moved = λ _ y. absurd (T-not (keeps (area-state base w) x) y k);
-  }
+  pub keeping : T (whole-test base w c) → p ≡ paper (reply (area-state base w) (step x) .answer) → T (keeps (area-state base w) x) → Acts base w w c c x p
+  keeping h e k = acts-kept base w c x p (decided base w c h) k e
 
   -- on words that are not whole
   pub refusing : ¬ (Whole base w c) → p ≡ paper (refused 9 0) → Acts base w w c c x p
-  refusing n e = record {
-    answer = record { broken = λ _. e; told = λ h. absurd (n h) };
-    broken = λ _. (refl, refl);
-    kept = λ h. absurd (n h);
-    moved = λ h. absurd (n h);
-  }
+  refusing n e = acts-broken base w c x p n e
 
-  pub listing : {old new : List ℤ} → T (whole-test base w c) → p ≡ paper (reply (area-state base w) x .answer)
-      → new ≡ list-after (reply (area-state base w) x .answer) old → Lists base w c x old new p
-  listing h e l = record { answer = answered h e; broken = λ n. absurd (n (decided base w c h)); written = λ _. l }
+module _ {w : List ℕ} {c : Counters} {x : Report} {p : Paper} {old : List ℤ} where
+  pub listing : {new : List ℤ} → T (whole-test base w c) → p ≡ paper (reply (area-state base w) (report x (length old)) .answer)
+      → new ≡ list-after (reply (area-state base w) (report x (length old)) .answer) old → Reports base w c x old new p
+  listing h e l =
+      let v = decided base w c h in
+      record { answer = answered-whole base w c (report x (length old)) p v e; broken = λ n. absurd (n v); written = λ _. l }
 
-  pub refusing-list : {old : List ℤ} → ¬ (Whole base w c) → p ≡ paper (refused 9 0) → Lists base w c x old old p
-  refusing-list n e =
-      record { answer = record { broken = λ _. e; told = λ h. absurd (n h) }; broken = λ _. refl; written = λ h. absurd (n h) }
+  pub refusing-list : ¬ (Whole base w c) → p ≡ paper (refused 9 0) → Reports base w c x old old p
+  refusing-list n e = record { answer = answered-nine base w c (report x (length old)) p n e; broken = λ _. refl; written = λ h. absurd (n h) }
 
 -- ---- lists of calls
 
 module _ {w w₂ : List ℕ} {c c₁ c₂ : t.Counters} {e : Event} {es : List Event} {len level : ℕ} where
   -- a call on all words, which leaves w₁
-  pub then : (w₁ : List ℕ) → Step w c (counters-at len level) w₁ e c₁ → Calls w₁ c₁ es w₂ c₂ → Calls w c (e ∷ es) w₂ c₂
+  pub then : (w₁ : List ℕ) → Called w c (counters-at len level) w₁ e c₁ → Calls w₁ c₁ es w₂ c₂ → Calls w c (e ∷ es) w₂ c₂
   then w₁ s later = next w w₁ [] (sym (append-nil w)) s (sym (append-nil w₁)) later
 
   -- a call on the first k words, which leaves those of w₁; the others are as they were
-  pub then-cut : (k : ℕ) (w₁ : List ℕ) → drop k w₁ ≡ drop k w → Step (take k w) c (counters-at len level) (take k w₁) e c₁ → Calls w₁ c₁ es w₂ c₂
+  pub then-cut : (k : ℕ) (w₁ : List ℕ) → drop k w₁ ≡ drop k w → Called (take k w) c (counters-at len level) (take k w₁) e c₁ → Calls w₁ c₁ es w₂ c₂
       → Calls w c (e ∷ es) w₂ c₂
   then-cut k w₁ same s later =
       next (take k w) (take k w₁) (drop k w) (sym (take-append-drop k w)) s (sym (take-append-drop k w₁) ∙ ap (λ v. take k w₁ ++ v) same) later

@@ -9,7 +9,7 @@ use Rattle.types.specs.Limits.{base}
 use Rattle.types.specs.declared.Counters.{Counters}
 use Rattle.meaning.specs.Meaning.{Sentence}
 use Rattle.meaning.specs.Examples.{minus}
-use Rattle.book.specs.Table.{Call, give, open-level, take-back, propagate, bounds, explain, explain-conflict, origin, list-trail, Paper}
+use Rattle.book.specs.Table.{Step, give, open-level, take-back, propagate, Report, bounds, explain, explain-conflict, origin, list-trail, Call, step, report, Paper}
 use Rattle.propagate.specs.Propagate.{plain}
 use Rattle.columns.specs.Columns.{Columns, columns, all-written, sentences-in}
 use Rattle.columns.specs.declared.Answer.{Answer}
@@ -47,12 +47,14 @@ turn w n v x p old new = record {
   event = record { asked = record { call = x; size = length w; counters = record { length-is = n; level-is = v } }; numbers = p; old = old; new = new };
 }
 
--- a call with no list
-abbrev pub asks : List ℕ → (length level : ℕ) → Call → Paper → Turn
-asks w n v x p = turn w n v x p [] []
+abbrev pub asks : List ℕ → (length level : ℕ) → Step → Paper → Turn
+asks w n v x p = turn w n v (step x) p [] []
 
-abbrev pub asks-list : List ℕ → (length level : ℕ) → (ℕ → Call) → Paper → (old new : List ℤ) → Turn
-asks-list w n v x p old new = turn w n v (x (length old)) p old new
+abbrev pub asks-list : List ℕ → (length level : ℕ) → Report → Paper → (old new : List ℤ) → Turn
+asks-list w n v x p old new = turn w n v (report x (length old)) p old new
+
+abbrev pub asks-bounds : List ℕ → (length level k : ℕ) → Paper → Turn
+asks-bounds w n v k p = asks-list w n v (bounds k) p [] []
 
 -- a lent list of k numbers 7
 abbrev pub sevens : ℕ → List ℤ
@@ -120,7 +122,7 @@ m11-turns =
     ∷ asks (take 23 m11-derived) 3 1 (take-back 0) (plain 9 0 0)
     ∷ asks m11-derived 3 1 (take-back 2) (plain 15 0 0)
     ∷ asks m11-derived 3 1 (take-back 0) (plain 0 0 0)
-    ∷ asks m11-two 2 0 (bounds 1) (spans 1 3)
+    ∷ asks-bounds m11-two 2 0 1 (spans 1 3)
     -- to the current level
     ∷ asks m11-two 2 0 (take-back 0) (plain 0 0 0)
     ∷ asks m11-two 2 0 open-level (plain 0 0 0)
@@ -171,7 +173,7 @@ m12-turns =
     -- the area cut below its need; no conflict; no such sentence
     ∷ asks-list (take 27 m12-derived) 2 0 (origin (pos 2)) (plain 9 0 0) (sevens 1) (sevens 1)
     ∷ asks-list m12-derived 2 0 (explain-conflict 1) (plain 17 0 0) (sevens 1) (sevens 1)
-    ∷ asks m12-derived 2 0 (bounds 3) (plain 16 0 0)
-    ∷ asks m12-derived 2 0 (bounds 2) (spans 1 1)
+    ∷ asks-bounds m12-derived 2 0 3 (plain 16 0 0)
+    ∷ asks-bounds m12-derived 2 0 2 (spans 1 1)
     ∷ asks m12-derived 2 0 propagate (plain 0 0 0)
     ∷ []
