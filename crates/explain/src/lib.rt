@@ -12,7 +12,7 @@ ghost use Rattle.types.specs.Limits.{Fitting};
 ghost use Rattle.numbers.specs.Words.{literal-of};
 ghost use Rattle.book.specs.Table.{explain, explain-conflict};
 ghost use Rattle.area.specs.Whole.{Whole};
-ghost use Rattle.calls.specs.Calls.{counted, listed-paper, Lists};
+ghost use Rattle.calls.specs.Calls.{counted, listed-paper, Reports};
 ghost use Rattle.causes.specs.Causes.{CausesAsked};
 ghost use Rattle.causes.specs.Listing.{Listing};
 ghost use Rattle.explain.specs.Explain.{negations, overwritten, Comparable, ConflictIs};
@@ -82,7 +82,7 @@ fn stored_explanation(
     list: &mut [i64],
 ) -> Listed
     requires { ⌜ Fitting lim × Whole lim (now area) (counted counters) ⌝ }
-    ensures { λ r. ⌜ Listing lim (now (area .entry)) (explain literal (length (now (list .entry)))) (now (list .entry)) (now (list .exit)) r ⌝ }
+    ensures { λ r. ⌜ Listing lim (now (area .entry)) (explain literal) (now (list .entry)) (now (list .exit)) r ⌝ }
 {
     let n = (area[0] % 65536) as usize;
     let size = signed::size(literal);
@@ -126,7 +126,7 @@ pub fn explain_within(
     list: &mut [i64],
 ) -> Listed
     requires { ⌜ Fitting lim ⌝ }
-    ensures { λ r. ⌜ Lists lim (now (area .entry)) (counted counters) (explain literal (length (now (list .entry)))) (now (list .entry)) (now (list .exit)) (listed-paper r) ⌝ }
+    ensures { λ r. ⌜ Reports lim (now (area .entry)) (counted counters) (explain literal) (now (list .entry)) (now (list .exit)) (listed-paper r) ⌝ }
 {
     let level = counters.level;
     if !whole::is_whole(area, lim, counters.length, level.0) {
@@ -159,7 +159,7 @@ fn stored_conflict(
     list: &mut [i64],
 ) -> Listed
     requires { ⌜ Fitting lim × Whole lim (now area) (counted counters) ⌝ }
-    ensures { λ r. ⌜ Listing lim (now (area .entry)) (explain-conflict (sentence .0) (length (now (list .entry)))) (now (list .entry)) (now (list .exit)) r ⌝ }
+    ensures { λ r. ⌜ Listing lim (now (area .entry)) (explain-conflict (sentence .0)) (now (list .entry)) (now (list .exit)) r ⌝ }
 {
     let n = (area[0] % 65536) as usize;
     let count = (area[0] / 65536 % 65536) as usize;
@@ -197,7 +197,7 @@ pub fn explain_conflict_within(
     list: &mut [i64],
 ) -> Listed
     requires { ⌜ Fitting lim ⌝ }
-    ensures { λ r. ⌜ Lists lim (now (area .entry)) (counted counters) (explain-conflict (sentence .0) (length (now (list .entry)))) (now (list .entry)) (now (list .exit)) (listed-paper r) ⌝ }
+    ensures { λ r. ⌜ Reports lim (now (area .entry)) (counted counters) (explain-conflict (sentence .0)) (now (list .entry)) (now (list .exit)) (listed-paper r) ⌝ }
 {
     let level = counters.level;
     if !whole::is_whole(area, lim, counters.length, level.0) {

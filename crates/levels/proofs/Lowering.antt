@@ -12,7 +12,7 @@ use Rattle.types.specs.declared.Limits.{Limits}
 use Rattle.types.specs.Limits.{Fitting}
 use Rattle.meaning.specs.Computed.{standing}
 use Rattle.book.specs.Rows.{Row, trail, up-to}
-use Rattle.book.specs.Table.{take-back, refused, done, paper, Outcome, effect}
+use Rattle.book.specs.Table.{take-back, refused, done, paper, Outcome, effect, step}
 use Rattle.area.specs.Layout.{word, atoms-of, sentences-of, level-of, rows-from}
 use Rattle.area.specs.Whole.{Whole}
 use Rattle.calls.specs.Calls.{area-state, is-refusal, Moved, Acts}
@@ -81,9 +81,9 @@ module _ (lim : Limits) (w : List ℕ) (len level k : ℕ) (f : Fitting lim) (h 
     lowered-refreshable w₂ q =
         subst (λ (v : List ℕ). Refreshable lim v n S touched) (sym q) (refreshable lim w lowered (counters len level) h size-same rest-same f touched (c .table))
 
-    take-back-moves : (w′ : List ℕ) → Refreshed lowered w′ n S touched → Moved lim w w′ (counters left k) (effect (area-state lim w) (take-back k))
+    take-back-moves : (w′ : List ℕ) → Refreshed lowered w′ n S touched → Moved lim w w′ (counters left k) (effect (area-state lim w) (step (take-back k)))
     take-back-moves w′ r =
-        renewed-moved lim w lowered w′ left (effect (area-state lim w) (take-back k))
+        renewed-moved lim w lowered w′ left (effect (area-state lim w) (step (take-back k)))
         (renewed-whole lim w lowered w′ (counters len level) left k touched h changed r)
         (rows-left ∙ c .rows ∙ ap {A = List Row} (up-to k) (sym (whole-rows lim w len level h)))
 

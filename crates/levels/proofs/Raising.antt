@@ -13,7 +13,7 @@ use Rattle.meaning.specs.Meaning.{Each}
 use Rattle.meaning.specs.Merge.{scope}
 use Rattle.meaning.specs.Computed.{standing}
 use Rattle.book.specs.Rows.{Row, trail}
-use Rattle.book.specs.Table.{open-level, refused, done, paper, Outcome, effect, reply}
+use Rattle.book.specs.Table.{open-level, refused, done, paper, Outcome, effect, reply, step}
 use Rattle.area.specs.Layout.{word, atoms-of, sentences-of, rows-from, record-at, rule-at}
 use Rattle.area.specs.Whole.{Whole}
 use Rattle.calls.specs.Calls.{area-state, is-refusal, Moved, Acts}
@@ -88,10 +88,10 @@ module _ (lim : Limits) (w : List ℕ) (len level : ℕ) (f : Fitting lim) (h : 
     raised-whole : RenewedWhole lim w w′ w′ len (level + 1)
     raised-whole = renewed-whole lim w w′ w′ (counters len level) len (level + 1) [] h changed nothing-renewed
 
-    open-moves : Moved lim w w′ (counters len (level + 1)) (effect (area-state lim w) open-level)
+    open-moves : Moved lim w w′ (counters len (level + 1)) (effect (area-state lim w) (step open-level))
     open-moves =
-        subst (λ (v : ℕ). Moved lim w w′ (counters len v) (effect (area-state lim w) open-level)) (omega (arith, h .level-is))
-        (renewed-moved lim w w′ w′ len (effect (area-state lim w) open-level)
+        subst (λ (v : ℕ). Moved lim w w′ (counters len v) (effect (area-state lim w) (step open-level))) (omega (arith, h .level-is))
+        (renewed-moved lim w w′ w′ len (effect (area-state lim w) (step open-level))
         (subst (λ (v : ℕ). RenewedWhole lim w w′ w′ len v) (omega (arith, h .level-is)) raised-whole) (rows-same ∙ sym (whole-rows lim w len level h)))
 
   -- ---- what open does on a whole area
@@ -110,5 +110,5 @@ module _ (lim : Limits) (w : List ℕ) (len level : ℕ) (f : Fitting lim) (h : 
       acts-moved lim w (counters len level) open-level (paper done) w″ (counters len (level + 1)) h
       (subst (λ (o : Outcome). T (not (is-refusal (o .answer) || false))) (sym e) tt)
       (ap (λ (o : Outcome). paper (o .answer)) (sym e))
-      (subst (λ (v : List ℕ). Moved lim w v (counters len (level + 1)) (reply (area-state lim w) open-level)) (sym (q ∙ ap {A = ℕ} (λ k. headed w k len (level + 1)) o))
+      (subst (λ (v : List ℕ). Moved lim w v (counters len (level + 1)) (reply (area-state lim w) (step open-level))) (sym (q ∙ ap {A = ℕ} (λ k. headed w k len (level + 1)) o))
       (subst (Moved lim w (headed w n len (level + 1)) (counters len (level + 1))) (sym e) (open-moves l)))

@@ -14,7 +14,7 @@ use Rattle.types.specs.declared.Limits.{Limits}
 use Rattle.numbers.proofs.Words.{cases}
 use Rattle.meaning.specs.Meaning.{atom}
 use Rattle.book.specs.Rows.{origins}
-use Rattle.book.specs.Table.{Call, origin, refused, listed, scopes, no-atom, stands, reply}
+use Rattle.book.specs.Table.{Report, origin, report, listed, refused, reported, scopes, no-atom, stands, reply}
 use Rattle.book.specs.Book.{judged-all}
 use Rattle.area.specs.Layout.{atoms-of, length-of, rows-of, theory-of}
 use Rattle.calls.specs.declared.Listed.{Listed}
@@ -25,15 +25,15 @@ use Rattle.causes.proofs.Listing.{listing-refused, listing-done}
 use Rattle.origin.specs.Origin.{origins-at, Handed}
 
 module _ (lim : Limits) (w : List ℕ) (l : ℤ) (old : List ℤ) where
-  abbrev call : Call
-  call = origin l (length old)
+  abbrev call : Report
+  call = origin l
 
   abbrev ls : List ℤ
   ls = origins (scopes (judged-all (theory-of w))) (rows-of w) l
 
   -- ---- refused
 
-  strange : no-atom (area-state lim w) l ≡ true → reply (area-state lim w) call .answer ≡ refused 10 0
+  strange : no-atom (area-state lim w) l ≡ true → reply (area-state lim w) (report call (length old)) .answer ≡ refused 10 0
   unfolding reply
   strange e = rw e
 
@@ -46,18 +46,18 @@ module _ (lim : Limits) (w : List ℕ) (l : ℤ) (old : List ℤ) where
       (strange (ap₂ {A = Bool} {B = Bool} (λ x y. not (x && y)) (le-leb 1 (atom l) (omega arith)) (lt-leb (atom l) (atoms-of w) h)))
 
   module _ (low : 1 ≤ atom l) (high : atom l ≤ atoms-of w) where
-    absent : stands (area-state lim w) l ≡ false → reply (area-state lim w) call .answer ≡ refused 12 0
+    absent : stands (area-state lim w) l ≡ false → reply (area-state lim w) (report call (length old)) .answer ≡ refused 12 0
     unfolding reply
     absent e = rw (le-leb 1 (atom l) low, le-leb (atom l) (atoms-of w) high, e)
 
     -- ---- listed
 
     module _ (on : stands (area-state lim w) l ≡ true) where
-      short : length old < length ls → reply (area-state lim w) call .answer ≡ refused 18 (length ls)
+      short : length old < length ls → reply (area-state lim w) (report call (length old)) .answer ≡ refused 18 (length ls)
       unfolding reply
       short h = rw (le-leb 1 (atom l) low, le-leb (atom l) (atoms-of w) high, on, lt-ltb (length old) (length ls) h)
 
-      enough : length ls ≤ length old → reply (area-state lim w) call .answer ≡ listed ls
+      enough : length ls ≤ length old → reply (area-state lim w) (report call (length old)) .answer ≡ reported (listed ls)
       unfolding reply
       enough h = rw (le-leb 1 (atom l) low, le-leb (atom l) (atoms-of w) high, on, le-ltb (length old) (length ls) h)
 

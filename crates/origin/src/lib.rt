@@ -9,7 +9,7 @@ ghost use lib.ListN.{length};
 ghost use Rattle.types.specs.Limits.{Fitting};
 ghost use Rattle.book.specs.Table.{origin};
 ghost use Rattle.area.specs.Whole.{Whole};
-ghost use Rattle.calls.specs.Calls.{counted, listed-paper, Lists};
+ghost use Rattle.calls.specs.Calls.{counted, listed-paper, Reports};
 ghost use Rattle.causes.specs.Listing.{Listing};
 ghost use Rattle.origin.specs.Marks.{Markable, Named, Step, Reached, Adds};
 ghost use Rattle.origin.specs.Origin.{Choosable, chosen, chosen-literals, in-front, OriginsAsked, Blank, origins-at, Choice, Handed};
@@ -140,7 +140,7 @@ fn stored_origin(
     list: &mut [i64],
 ) -> Listed
     requires { ⌜ Fitting lim × Whole lim (now area) (counted counters) ⌝ }
-    ensures { λ r. ⌜ Listing lim (now (area .entry)) (origin literal (length (now (list .entry)))) (now (list .entry)) (now (list .exit)) r ⌝ }
+    ensures { λ r. ⌜ Listing lim (now (area .entry)) (origin literal) (now (list .entry)) (now (list .exit)) r ⌝ }
 {
     let n = (area[0] % 65536) as usize;
     let rows = (area[0] / 4294967296 % 65536) as usize;
@@ -166,7 +166,7 @@ pub fn origin_within(
     list: &mut [i64],
 ) -> Listed
     requires { ⌜ Fitting lim ⌝ }
-    ensures { λ r. ⌜ Lists lim (now (area .entry)) (counted counters) (origin literal (length (now (list .entry)))) (now (list .entry)) (now (list .exit)) (listed-paper r) ⌝ }
+    ensures { λ r. ⌜ Reports lim (now (area .entry)) (counted counters) (origin literal) (now (list .entry)) (now (list .exit)) (listed-paper r) ⌝ }
 {
     let level = counters.level;
     if !whole::is_whole(area, lim, counters.length, level.0) {

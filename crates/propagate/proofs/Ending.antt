@@ -10,7 +10,7 @@ use lib.IntN.{ℤ}
 use lib.Dec.{T}
 use Rattle.types.specs.declared.Limits.{Limits}
 use Rattle.book.specs.Rows.{Row, row, trail}
-use Rattle.book.specs.Table.{propagate, Paper, paper, Judged, Speech, nothing, objects, derives, speech, Stop, run, propagated, Outcome, ended, reply}
+use Rattle.book.specs.Table.{propagate, Paper, paper, Judged, Speech, nothing, objects, derives, speech, Stop, run, propagated, Outcome, ended, reply, step}
 use Rattle.book.specs.Book.{judged-all, counters}
 use Rattle.book.proofs.Keeps.{next}
 use Rattle.area.specs.Layout.{atoms-of, length-of, level-of, rows-of, theory-of}
@@ -51,7 +51,7 @@ module _ (lim : Limits) (w w′ : List ℕ) (len level len′ sentence : ℕ) (h
   abbrev outcome : Outcome
   outcome = record { answer = ended sentence (len′ - len); level = level-of w; rows = rows-of w′ }
 
-  reply-is : reply (area-state lim w) propagate ≡ outcome
+  reply-is : reply (area-state lim w) (step propagate) ≡ outcome
   unfolding reply
   reply-is =
       ap (λ (x : Stop). record { answer = ended (x .sentence) (length (x .rows) - length (rows-of w)); level = level-of w; rows = x .rows }) stop-is

@@ -14,7 +14,7 @@ use lib.Dec.{T}
 use Rattle.types.specs.declared.Limits.{Limits}
 use Rattle.meaning.specs.Meaning.{Assignment, Agrees, Consistent, Sentence, Each}
 use Rattle.book.specs.Rows.{Row, row, trail}
-use Rattle.book.specs.Table.{propagate, Paper, paper, Judged, State, Speech, nothing, objects, derives, speech, Stop, run, propagated, Outcome, ended, effect, reply}
+use Rattle.book.specs.Table.{propagate, Paper, paper, Judged, State, Speech, nothing, objects, derives, speech, Stop, run, propagated, Outcome, ended, effect, reply, step}
 use Rattle.book.specs.Book.{Counters, JudgesAll}
 use Rattle.book.specs.Means.{SaysNothing, ForcesFirst, Speaker, Clashes, DerivedRow, DerivedRows, Additions}
 use Rattle.book.proofs.Number.{numbered-positive}
@@ -96,11 +96,11 @@ module _ (lim : Limits) (w w′ : List ℕ) (c c′ : Counters) (p : Paper) (act
   abbrev q : State
   q = area-state lim w
 
-  replied : reply q propagate ≡ effect q propagate
+  replied : reply q (step propagate) ≡ effect q (step propagate)
   unfolding reply
   replied = refl
 
-  moved : Moved lim w w′ c′ (effect q propagate)
+  moved : Moved lim w w′ c′ (effect q (step propagate))
   moved =
       subst (Moved lim w w′ c′) replied
       (acts .moved h

@@ -9,7 +9,7 @@ use mir.ValLaws.{toZ-ofZ}
 use Rattle.numbers.specs.Extended.{Extended, below, at, above}
 use Rattle.numbers.specs.Words.{top, unbias, unword}
 use Rattle.numbers.proofs.Words.{unword-below, unword-at, unword-above}
-use Rattle.book.specs.Table.{mark, number, between, paper}
+use Rattle.book.specs.Table.{mark, number, between, reported, paper}
 use Rattle.calls.specs.Calls.{bounds-paper}
 use Rattle.reports.specs.declared.Value.{Value}
 use Rattle.reports.specs.Reports.{ValueIs}
@@ -31,5 +31,5 @@ value-at x n h z e =
 
 -- two values as the answer of bounds
 pub between-paper : (v w : Extended) (a b : Value) → ValueIs v a → ValueIs w b → SFits w64 (a .number) → SFits w64 (b .number)
-    → bounds-paper (record { code = 0; «least_mark» = a .mark; least = toZ w64 (ofZ w64 (a .number)); «greatest_mark» = b .mark; greatest = toZ w64 (ofZ w64 (b .number)) }) ≡ paper (between v w)
+    → bounds-paper (record { code = 0; «least_mark» = a .mark; least = toZ w64 (ofZ w64 (a .number)); «greatest_mark» = b .mark; greatest = toZ w64 (ofZ w64 (b .number)) }) ≡ paper (reported (between v w))
 between-paper v w a b p q f g = rw (toZ-ofZ w64 (a .number) f, toZ-ofZ w64 (b .number) g, p .mark-is, p .number-is, q .mark-is, q .number-is)

@@ -6,7 +6,7 @@ use lib.IntN.{ℤ}
 use lib.ListN.{length}
 use Rattle.types.specs.declared.Limits.{Limits}
 use Rattle.numbers.specs.Extended.{Extended}
-use Rattle.book.specs.Table.{mark, number, list-trail, paper, list-after, reply}
+use Rattle.book.specs.Table.{mark, number, list-trail, report, paper, list-after, reply}
 use Rattle.calls.specs.declared.Listed.{Listed}
 use Rattle.calls.specs.Calls.{area-state, listed-paper}
 use Rattle.reports.specs.declared.Value.{Value}
@@ -17,5 +17,5 @@ pub record ValueIs (v : Extended) (r : Value) : Type 0 where
 
 -- the answer for a list of so many words, and the list after it
 pub record Listing (lim : Limits) (w : List ℕ) (old new : List ℤ) (r : Listed) : Type 0 where
-  pub answer : listed-paper r ≡ paper (reply (area-state lim w) (list-trail (length old)) .answer)
-  pub written : new ≡ list-after (reply (area-state lim w) (list-trail (length old)) .answer) old
+  pub answer : listed-paper r ≡ paper (reply (area-state lim w) (report list-trail (length old)) .answer)
+  pub written : new ≡ list-after (reply (area-state lim w) (report list-trail (length old)) .answer) old

@@ -13,10 +13,10 @@ ghost use lib.Seq.{sets};
 ghost use Rattle.types.specs.Limits.{Fitting};
 ghost use Rattle.numbers.specs.Words.{top, unbias, unword, literal-of};
 ghost use Rattle.book.specs.Rows.{flat};
-ghost use Rattle.book.specs.Table.{bounds, list-trail, refused, paper, reply};
+ghost use Rattle.book.specs.Table.{bounds, list-trail, report, refused, paper, reply};
 ghost use Rattle.area.specs.Layout.{rows-from};
 ghost use Rattle.area.specs.Whole.{Whole};
-ghost use Rattle.calls.specs.Calls.{counted, area-state, bounds-paper, listed-paper, Answered, Lists};
+ghost use Rattle.calls.specs.Calls.{counted, area-state, bounds-paper, listed-paper, Answered, Reports};
 ghost use Rattle.reports.specs.Reports.{ValueIs, Listing};
 
 // The word of a value above every number; that of one below every number is 0.
@@ -75,7 +75,7 @@ fn refusal(code: u64) -> Bounds
 // The answer on a whole area: the sentence's stored bounds.
 pub fn stored_bounds(area: &[u64], lim: Limits, counters: Counters, sentence: Sentence) -> Bounds
     requires { ⌜ Fitting lim × Whole lim (now area) (counted counters) ⌝ }
-    ensures { λ r. ⌜ bounds-paper r ≡ paper (reply (area-state lim (now (area .entry))) (bounds (sentence .0)) .answer) ⌝ }
+    ensures { λ r. ⌜ bounds-paper r ≡ paper (reply (area-state lim (now (area .entry))) (report (bounds (sentence .0)) 0) .answer) ⌝ }
 {
     let n = (area[0] % 65536) as usize;
     let count = area[0] / 65536 % 65536;
@@ -100,7 +100,7 @@ pub fn stored_bounds(area: &[u64], lim: Limits, counters: Counters, sentence: Se
 
 pub fn bounds_within(area: &[u64], lim: Limits, counters: Counters, sentence: Sentence) -> Bounds
     requires { ⌜ Fitting lim ⌝ }
-    ensures { λ r. ⌜ Answered lim (now (area .entry)) (counted counters) (bounds (sentence .0)) (bounds-paper r) ⌝ }
+    ensures { λ r. ⌜ Answered lim (now (area .entry)) (counted counters) (report (bounds (sentence .0)) 0) (bounds-paper r) ⌝ }
 {
     let level = counters.level;
     if !whole::is_whole(area, lim, counters.length, level.0) {
@@ -156,7 +156,7 @@ fn stored_trail(area: &[u64], lim: Limits, counters: Counters, list: &mut [i64])
 
 pub fn list_trail_within(area: &[u64], lim: Limits, counters: Counters, list: &mut [i64]) -> Listed
     requires { ⌜ Fitting lim ⌝ }
-    ensures { λ r. ⌜ Lists lim (now (area .entry)) (counted counters) (list-trail (length (now (list .entry)))) (now (list .entry)) (now (list .exit)) (listed-paper r) ⌝ }
+    ensures { λ r. ⌜ Reports lim (now (area .entry)) (counted counters) list-trail (now (list .entry)) (now (list .exit)) (listed-paper r) ⌝ }
 {
     let level = counters.level;
     if !whole::is_whole(area, lim, counters.length, level.0) {

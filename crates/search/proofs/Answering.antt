@@ -7,7 +7,7 @@ use lib.IntN.{ℤ}
 use lib.Dec.{T}
 use Rattle.types.specs.declared.Limits.{Limits}
 use Rattle.book.specs.Rows.{any}
-use Rattle.book.specs.Table.{search, refused, paper, State, no-atom, Outcome, unchanged, searching, search-ended, reply}
+use Rattle.book.specs.Table.{search, refused, paper, State, no-atom, Outcome, unchanged, searching, search-ended, reply, step}
 use Rattle.book.specs.Book.{Counters}
 use Rattle.area.specs.Layout.{atoms-of}
 use Rattle.area.specs.Whole.{Whole}
@@ -21,14 +21,14 @@ module _ (lim : Limits) (w : List ℕ) (ls : List ℤ) where
   abbrev q : State
   q = area-state lim w
 
-  reply-by : (b : Bool) → any (no-atom q) ls ≡ b → reply q (search ls) ≡ cond b (unchanged q (refused 10 0)) (search-ended (searching q ls))
+  reply-by : (b : Bool) → any (no-atom q) ls ≡ b → reply q (step (search ls)) ≡ cond b (unchanged q (refused 10 0)) (search-ended (searching q ls))
   unfolding reply
   reply-by b e = ap {A = Bool} (λ x. cond x (unchanged q (refused 10 0)) (search-ended (searching q ls))) e
 
-  pub reply-known : AllKnown (atoms-of w) ls → reply q (search ls) ≡ search-ended (searching q ls)
+  pub reply-known : AllKnown (atoms-of w) ls → reply q (step (search ls)) ≡ search-ended (searching q ls)
   reply-known k = reply-by false k
 
-  strange : (b : Bool) → any (no-atom q) ls ≡ b → ¬ (AllKnown (atoms-of w) ls) → reply q (search ls) .answer ≡ refused 10 0
+  strange : (b : Bool) → any (no-atom q) ls ≡ b → ¬ (AllKnown (atoms-of w) ls) → reply q (step (search ls)) .answer ≡ refused 10 0
   strange true e n = ap {A = Outcome} (λ o. o .answer) (reply-by true e)
   strange false e n = absurd (n e)
 

@@ -11,7 +11,7 @@ use lib.Dec.{T, leb}
 use Rattle.types.specs.declared.Limits.{Limits}
 use Rattle.meaning.specs.Meaning.{atom}
 use Rattle.book.specs.Rows.{Row}
-use Rattle.book.specs.Table.{open-level, give, refused, Paper, paper, State, no-atom, on-trail, Outcome, unchanged, giving, opening, following, reply}
+use Rattle.book.specs.Table.{open-level, give, refused, Paper, paper, State, no-atom, on-trail, Outcome, unchanged, giving, opening, following, reply, step}
 use Rattle.book.specs.Book.{Counters, judged-all}
 use Rattle.book.proofs.Making.{give-taken}
 use Rattle.area.specs.Layout.{atoms-of, level-of, rows-of, theory-of}
@@ -33,7 +33,7 @@ module _ (lim : Limits) (w : List ℕ) where
   abbrev replied : Bool → Outcome
   replied b = cond b (unchanged q (refused 14 0)) (opening q)
 
-  open-is : reply q open-level ≡ replied highest
+  open-is : reply q (step open-level) ≡ replied highest
   unfolding reply
   open-is = refl
 
@@ -59,7 +59,7 @@ module _ (lim : Limits) (w : List ℕ) where
       below : highest ≡ false
       below = by-code highest refl .0 passed
 
-      opened : reply q open-level ≡ opening q
+      opened : reply q (step open-level) ≡ opening q
       opened = open-is ∙ ap {A = Bool} replied below
 
       pub moved : Moved lim w w₁ c₁ (opening q)
@@ -71,9 +71,9 @@ module _ (lim : Limits) (w : List ℕ) where
         abbrev given : Outcome
         given = giving (following q (opening q)) l
 
-        give-is : reply (area-state lim w₁) (give l) ≡ given
+        give-is : reply (area-state lim w₁) (step (give l)) ≡ given
         give-is =
-            ap (λ (s : State). reply s (give l)) (state-after moved)
+            ap (λ (s : State). reply s (step (give l))) (state-after moved)
             ∙ give-taken (atoms-of w) (lim .levels) (judged-all (theory-of w)) (suc (level-of w)) (rows-of w) l known off
 
         given-moved : Moved lim w₁ w₂ c₂ given

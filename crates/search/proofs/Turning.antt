@@ -12,7 +12,7 @@ use Rattle.types.specs.declared.Limits.{Limits}
 use Rattle.types.specs.Limits.{Fitting}
 use Rattle.types.specs.declared.Counters as t
 use Rattle.book.specs.Rows.{Row}
-use Rattle.book.specs.Table.{propagate, done, Paper, paper, State, propagated, Outcome, ended, unchanged, put-on, propagating, following, End, end, apart, trying, searching, search-ended, reply, searched}
+use Rattle.book.specs.Table.{propagate, done, Paper, paper, State, propagated, Outcome, ended, unchanged, put-on, propagating, following, End, end, apart, trying, searching, search-ended, reply, searched, step}
 use Rattle.book.specs.Book.{Counters, judged-all}
 use Rattle.area.specs.Layout.{atoms-of, level-of, rows-of, theory-of}
 use Rattle.area.specs.Whole.{Whole}
@@ -76,7 +76,7 @@ module _ (lim : Limits) (w : List ℕ) where
   abbrev q : State
   q = area-state lim w
 
-  reply-is : reply q propagate ≡ propagating q
+  reply-is : reply q (step propagate) ≡ propagating q
   unfolding reply
   reply-is = refl
 

@@ -12,7 +12,7 @@ use Rattle.numbers.specs.Words.{literal-word}
 use Rattle.numbers.proofs.Words.{literal-of-word}
 use Rattle.meaning.specs.Meaning.{atom}
 use Rattle.literals.proofs.Atoms.{known-within}
-use Rattle.book.specs.Table.{give, refused, done, paper, State, no-atom, Outcome, effect, reply}
+use Rattle.book.specs.Table.{give, refused, done, paper, State, no-atom, Outcome, effect, reply, step}
 use Rattle.book.specs.Book.{Counters}
 use Rattle.area.specs.Layout.{atoms-of, sentences-of, value-at}
 use Rattle.whole.specs.Parts.{counters}
@@ -72,12 +72,12 @@ module _ (lim : Limits) (w : List ℕ) (c : Counters) (u : Usable lim w c) (l : 
         derived = λ s e. let b : ⊥ = omega (arith, level-small) in absurd b;
       }
 
-      pub has-effect : reply q (give l) ≡ effect q (give l)
+      pub has-effect : reply q (step (give l)) ≡ effect q (step (give l))
       unfolding reply
       has-effect = rw (known-within (atoms-of w) l low high, open-off-trail lim w c (u .whole) (atom l) low high free)
 
       module _ (w′ : List ℕ) (a : Advanced lim w w′ (c .length-is) (c .level-is) (literal-word l) (c .level-is)) where
-        moved : Moved lim w w′ (counters (c .length-is + 1) (c .level-is)) (effect (area-state lim w) (give l))
+        moved : Moved lim w w′ (counters (c .length-is + 1) (c .level-is)) (effect (area-state lim w) (step (give l)))
         moved = record {
           whole = a .whole;
           atoms = a .atoms;

@@ -12,7 +12,7 @@ use Rattle.explain.proofs.explain_conflict_within.Tie as tie
 returns : tie.Need-returns
 returns c = let s = c .before .before .before .before in
     lists-nine (s .args .lim) (s .args .area .now) (counted (s .args .counters))
-    (explain-conflict (s .args .sentence .0) (length (s .args .list .now))) (s .args .list .now)
+    (explain-conflict (s .args .sentence .0)) (s .args .list .now)
     (record { code = 9; value = 0 }) (denied (c .before .is-whole .ensures) (c .if1 .taken)) refl
 
 stored-conflict-requires : tie.Need-stored-conflict-requires
@@ -23,7 +23,7 @@ returns-2 c = let s = c .before .before .before .before .before .before .before 
     let new = c .before .stored-conflict .last .1 .1 .1 .1 .0 in
     let r = c .before .stored-conflict .result in
     lists-whole (s .args .lim) (s .args .area .now) (counted (s .args .counters))
-    (explain-conflict (s .args .sentence .0) (length (s .args .list .now))) (s .args .list .now)
+    (explain-conflict (s .args .sentence .0)) (s .args .list .now)
     new r (granted (c .before .before .before .before .is-whole .ensures) (c .before .before .before .if1 .left))
     (c .before .stored-conflict .ensures)
 

@@ -15,7 +15,7 @@ use Rattle.explain.proofs.explain_within.Tie as tie
 returns : tie.Need-returns
 returns c = let s = c .before .before .before .before in
     lists-nine (s .args .lim) (s .args .area .now) (counted (s .args .counters))
-    (explain (s .args .literal) (length (s .args .list .now))) (s .args .list .now)
+    (explain (s .args .literal)) (s .args .list .now)
     (record { code = 9; value = 0 }) (denied (c .before .is-whole .ensures) (c .if1 .taken)) refl
 
 stored-explanation-requires : tie.Need-stored-explanation-requires
@@ -26,9 +26,9 @@ returns-2 c = let s = c .before .before .before .before .before .before .before 
     let new = c .before .stored-explanation .last .1 .1 .1 .1 .0 in
     let r = c .before .stored-explanation .result in
     lists-whole (s .args .lim) (s .args .area .now) (counted (s .args .counters))
-    (explain (s .args .literal) (length (s .args .list .now))) (s .args .list .now)
+    (explain (s .args .literal)) (s .args .list .now)
     new r (granted (c .before .before .before .before .is-whole .ensures) (c .before .before .before .if1 .left))
-    (subst (λ l. Listing (s .args .lim) (s .args .area .now) (explain l (length (s .args .list .now))) (s .args .list .now) new r)
+    (subst (λ l. Listing (s .args .lim) (s .args .area .now) (explain l) (s .args .list .now) new r)
     (toZ-ofZ w64 (s .args .literal) (s .fits .literal)) (c .before .stored-explanation .ensures))
 
 pub explain-within-spec : {M : Type 1} → statement M

@@ -25,12 +25,12 @@ told c e = subst (Told (c .before .before .before .before .before .before)) e (c
 
 returns : tie.Need-returns
 returns c = let s = c .before .before .before .before in
-    listing-refused (s .args .lim) (s .args .area .now) (explain-conflict (s .args .sentence .0) (length (s .args .list .now))) (s .args .list .now) 16 0
+    listing-refused (s .args .lim) (s .args .area .now) (explain-conflict (s .args .sentence .0)) (s .args .list .now) 16 0
     (conflict-none (s .args .lim) (s .args .area .now) (s .args .sentence .0) (length (s .args .list .now)) (c .if1 .taken))
 
 returns-2 : tie.Need-returns-2
 returns-2 c = let s = c .before .before .before .before .before in
-    listing-refused (s .args .lim) (s .args .area .now) (explain-conflict (s .args .sentence .0) (length (s .args .list .now))) (s .args .list .now) 16 0
+    listing-refused (s .args .lim) (s .args .area .now) (explain-conflict (s .args .sentence .0)) (s .args .list .now) 16 0
     (conflict-past (s .args .lim) (s .args .area .now) (s .args .sentence .0) (length (s .args .list .now)) (c .if2 .taken))
 
 in-conflict-requires : tie.Need-in-conflict-requires

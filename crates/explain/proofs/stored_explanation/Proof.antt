@@ -8,7 +8,7 @@ use mir.Syntax.{w64}
 use mir.Val.{toZ, ofZ}
 use mir.ValLaws.{toZ-ofZ}
 use Rattle.meaning.specs.Meaning.{atom}
-use Rattle.book.specs.Table.{Call, explain, refused, reply}
+use Rattle.book.specs.Table.{Report, explain, report, refused, reply}
 use Rattle.area.specs.Layout.{atoms-of, length-of}
 use Rattle.calls.specs.Calls.{area-state, counted}
 use Rattle.causes.specs.Causes.{PositionIs}
@@ -58,11 +58,11 @@ derived c = let x = c .before .before .before in
       reason = c .if4 .left;
     }
 
-abbrev call : tie.Start → Call
-call s = explain (s .args .literal) (length (s .args .list .now))
+abbrev call : tie.Start → Report
+call s = explain (s .args .literal)
 
 -- refused with no value
-refused-by : (s : tie.Start) (k : ℕ) → reply (area-state (s .args .lim) (s .args .area .now)) (call s) .answer ≡ refused k 0
+refused-by : (s : tie.Start) (k : ℕ) → reply (area-state (s .args .lim) (s .args .area .now)) (report (call s) (length (s .args .list .now))) .answer ≡ refused k 0
     → Listing (s .args .lim) (s .args .area .now) (call s) (s .args .list .now) (s .args .list .now) (record { code = k; value = 0 })
 refused-by s k e = listing-refused (s .args .lim) (s .args .area .now) (call s) (s .args .list .now) k 0 e
 

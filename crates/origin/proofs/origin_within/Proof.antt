@@ -18,7 +18,7 @@ returns c = let s = c .before .before .before .before in
     let w = s .args .area .now in
     let had = counted (s .args .counters) in
     let old = s .args .list .now in
-    lists-nine (s .args .lim) w had (origin (s .args .literal) (length old)) old (record { code = 9; value = 0 })
+    lists-nine (s .args .lim) w had (origin (s .args .literal)) old (record { code = 9; value = 0 })
     (denied (c .before .is-whole .ensures) (c .if1 .taken)) refl
 
 stored-origin-requires : tie.Need-stored-origin-requires
@@ -31,9 +31,9 @@ returns-2 c = let s = c .before .before .before .before .before .before .before 
     let old = s .args .list .now in
     let rest = c .before .stored-origin in
     let new = rest .last .1 .1 .1 .1 .0 in
-    lists-whole (s .args .lim) w had (origin (s .args .literal) (length old)) old new (rest .result)
+    lists-whole (s .args .lim) w had (origin (s .args .literal)) old new (rest .result)
     (granted {P = Whole (s .args .lim) w had} (c .before .before .before .before .is-whole .ensures) (c .before .before .before .if1 .left))
-    (subst (λ l. Listing (s .args .lim) w (origin l (length old)) old new (rest .result)) (toZ-ofZ w64 (s .args .literal) (s .fits .literal)) (rest .ensures))
+    (subst (λ l. Listing (s .args .lim) w (origin l) old new (rest .result)) (toZ-ofZ w64 (s .args .literal) (s .fits .literal)) (rest .ensures))
 
 pub origin-within-spec : {M : Type 1} → statement M
 origin-within-spec =
