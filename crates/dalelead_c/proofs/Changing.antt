@@ -10,7 +10,7 @@ use lib.Dec.{T, T-not}
 use borrow.Author.Tests.{lt-ltb}
 use Rattle.types.specs.Limits.{base}
 use Rattle.book.specs.Rows.{Row}
-use Rattle.book.specs.Table.{Call, Paper, paper, Outcome, reply}
+use Rattle.book.specs.Table.{Step, step, Paper, paper, Outcome, reply}
 use Rattle.book.specs.Book.{Counters}
 use Rattle.area.specs.Layout.{atoms-of, length-of}
 use Rattle.area.specs.Whole.{Whole}
@@ -23,9 +23,9 @@ use Rattle.dalelead_c.proofs.Telling.{denied, opposed, left-true, Plain
 
 -- ---- the lent words are too few
 
-module _ (w : List ℕ) (c : Counters) (x : Call) (handed : Outcome → List ℕ) (out : List ℕ) where
+module _ (w : List ℕ) (c : Counters) (x : Step) (handed : Outcome → List ℕ) (out : List ℕ) where
   abbrev o : Outcome
-  o = reply (area-state base w) x
+  o = reply (area-state base w) (step x)
 
   pub changes-short : (needed r : ℕ) → length (handed o) ≡ needed → length out < needed → ToldShort w c x needed r → Changes w w c x handed out out r
   changes-short needed r size h t =

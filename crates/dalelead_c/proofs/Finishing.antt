@@ -11,7 +11,7 @@ use lib.Dec.{T, eqb, eqb→eq}
 use borrow.Author.Tests.{eqb-false}
 use Rattle.types.specs.Limits.{base}
 use Rattle.book.specs.Rows.{Row}
-use Rattle.book.specs.Table.{Call, take-back, propagate, search, Paper, paper, propagated, Outcome, ended, reply}
+use Rattle.book.specs.Table.{Step, take-back, propagate, search, step, Paper, paper, propagated, Outcome, ended, reply}
 use Rattle.book.specs.Book.{Counters}
 use Rattle.area.specs.Layout.{atoms-of, length-of, level-of, rows-of}
 use Rattle.area.specs.Whole.{Whole}
@@ -34,8 +34,8 @@ CountersOf o c = (length (o .rows) ≡ c .length-is) × (o .level ≡ c .level-i
 
 module _ (w w′ : List ℕ) (c : Counters) (d : Done) (k : ℕ) (a : Acts base w w′ c (counted (d .counters)) (take-back k) (done-paper d))
     (passed : d .code ≡ 0) (g : Whole base w c) where
-  abbrev q : Call → Outcome
-  q x = reply (area-state base w) x
+  abbrev q : Step → Outcome
+  q x = reply (area-state base w) (step x)
 
   -- to the current level
   stayed : eqb k (level-of w) ≡ true → CountersOf (q (take-back k)) (counted (d .counters))
@@ -60,15 +60,15 @@ module _ (w w′ : List ℕ) (c : Counters) (d : Done) (k : ℕ) (a : Acts base 
 
 -- ---- refused or done
 
-module _ (w w′ : List ℕ) (c : Counters) (x : Call) (d : Done) (out out′ : List ℕ) (r : ℕ)
+module _ (w w′ : List ℕ) (c : Counters) (x : Step) (d : Done) (out out′ : List ℕ) (r : ℕ)
     (a : Acts base w w′ c (counted (d .counters)) x (done-paper d)) where
-  pub changes-finished : Plain (reply (area-state base w) x .answer)
-      → (d .code ≡ 0 → Whole base w c → CountersOf (reply (area-state base w) x) (counted (d .counters)))
+  pub changes-finished : Plain (reply (area-state base w) (step x) .answer)
+      → (d .code ≡ 0 → Whole base w c → CountersOf (reply (area-state base w) (step x)) (counted (d .counters)))
       → 2 ≤ length out → Finished d out out′ r → Changes w w′ c x next-counters out out′ r
   changes-finished plain after room f = go (eqb (d .code) 0) refl
     where
       o : Outcome
-      o = reply (area-state base w) x
+      o = reply (area-state base w) (step x)
 
       go : (b : Bool) → eqb (d .code) 0 ≡ b → Changes w w′ c x next-counters out out′ r
       go true e =
@@ -95,7 +95,7 @@ acts-as w w′ c e a = subst (λ (x : Propagated). Acts base w w′ c (counted (
 
 module _ (w w′ : List ℕ) (c c′ : Counters) (p : Paper) (out : List ℕ) (a : Acts base w w′ c c′ propagate p) where
   -- as many as the trail grew
-  count-is : Whole base w c → p .value ≡ length (reply (area-state base w) propagate .rows) - length (rows-of w)
+  count-is : Whole base w c → p .value ≡ length (reply (area-state base w) (step propagate) .rows) - length (rows-of w)
   unfolding reply
   count-is g =
       let q = area-state base w in
@@ -105,12 +105,12 @@ module _ (w w′ : List ℕ) (c c′ : Counters) (p : Paper) (out : List ℕ) (a
       → r ≡ packed 0 (p .sentence) → Changes w w′ c propagate (next-counted w) out out′ r
   changes-propagated out′ r passed room front e =
       let plain = propagate-plain (area-state base w) in
-      let after : Whole base w c → CountersOf (reply (area-state base w) propagate) c′ =
+      let after : Whole base w c → CountersOf (reply (area-state base w) (step propagate)) c′ =
       λ g. moved-counters w c propagate (next-counted w) out w′ c′ p a plain passed g refl in
       changes-done w c propagate (next-counted w) out w′ c′ p a 3 out′ r plain passed refl room after
       (λ g. front
       ∙ ap₂ {A = ℕ} {B = ℕ} (λ m n. fronted (m ∷ n ∷ p .value ∷ []) out) (sym (after g .0)) (sym (after g .1))
-      ∙ ap {A = ℕ} (λ n. fronted (length (reply (area-state base w) propagate .rows) ∷ reply (area-state base w) propagate .level ∷ n ∷ []) out)
+      ∙ ap {A = ℕ} (λ n. fronted (length (reply (area-state base w) (step propagate) .rows) ∷ reply (area-state base w) (step propagate) .level ∷ n ∷ []) out)
       (count-is g))
       e
 
@@ -120,7 +120,7 @@ pub changes-searched : (w w′ : List ℕ) (c c′ : Counters) (ls : List ℤ) (
     → 4 ≤ length out → out′ ≡ fronted (c′ .length-is ∷ c′ .level-is ∷ p .value ∷ p .gone ∷ []) out → r ≡ packed 0 (p .sentence)
     → Changes w w′ c (search ls) next-searched out out′ r
 changes-searched w w′ c c′ ls p out out′ r a passed room front e =
-    let o = reply (area-state base w) (search ls) in
+    let o = reply (area-state base w) (step (search ls)) in
     let plain = search-plain (area-state base w) ls in
     let after : Whole base w c → CountersOf o c′ = λ g. moved-counters w c (search ls) next-searched out w′ c′ p a plain passed g refl in
     changes-done w c (search ls) next-searched out w′ c′ p a 4 out′ r plain passed refl room after

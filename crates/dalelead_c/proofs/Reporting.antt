@@ -8,17 +8,17 @@ use lib.ListN.{length}
 use lib.IntN.{ℤ, pos}
 use Rattle.types.specs.Limits.{base}
 use Rattle.numbers.specs.Extended.{Extended, below, at, above}
-use Rattle.book.specs.Table.{Call, bounds, Answer, refused, done, still, clash, searched, between, listed, mark, Paper, paper, Outcome, reply}
+use Rattle.book.specs.Table.{Report, bounds, report, between, listed, Answer, refused, done, still, clash, searched, reported, mark, Paper, paper, Outcome, reply}
 use Rattle.book.specs.Book.{Counters}
 use Rattle.area.specs.Whole.{Whole}
-use Rattle.calls.specs.Calls.{area-state, Answered, Lists}
+use Rattle.calls.specs.Calls.{area-state, Answered, Reports}
 use Rattle.dalelead_c.specs.Interface.{packed, fronted, bound-words, ReportsBounds, ReportsList}
 use Rattle.dalelead_c.proofs.Telling.{Plain, reply-by, coded, denied, opposed, refused-refuses, refused-told, few-refuses, told-short, told-sentence, passed-accepts}
 use Rattle.dalelead_c.proofs.Sizes.{settled}
 
 -- ---- lists
 
-pub reports-list : (w : List ℕ) (c : Counters) (x : Call) (old new : List ℤ) (p : Paper) (r : ℕ) → Lists base w c x old new p
+pub reports-list : (w : List ℕ) (c : Counters) (x : Report) (old new : List ℤ) (p : Paper) (r : ℕ) → Reports base w c x old new p
     → r ≡ packed (p .code) (p .value)
     → ReportsList w c x old new r
 reports-list w c x old new p r l e = record {
@@ -36,8 +36,8 @@ Ranged done = ⊥
 Ranged (still n) = ⊥
 Ranged (clash k n) = ⊥
 Ranged (searched k n g) = ⊥
-Ranged (between v w) = Unit {0}
-Ranged (listed ls) = ⊥
+Ranged (reported (between v w)) = Unit {0}
+Ranged (reported (listed ls)) = ⊥
 
 ranged-plain : (a : Answer) → Ranged a → Plain a
 ranged-plain (refused c n) h = h
@@ -45,8 +45,8 @@ ranged-plain done h = tt
 ranged-plain (still n) h = tt
 ranged-plain (clash k n) h = tt
 ranged-plain (searched k n g) h = tt
-ranged-plain (between v w) h = tt
-ranged-plain (listed ls) h = h
+ranged-plain (reported (between v w)) h = tt
+ranged-plain (reported (listed ls)) h = h
 
 -- the words that the paper's numbers make
 abbrev pub paper-words : Paper → List ℤ
@@ -58,8 +58,8 @@ ranged-words done h e = absurd h
 ranged-words (still n) h e = absurd h
 ranged-words (clash k n) h e = absurd h
 ranged-words (searched k n g) h e = absurd h
-ranged-words (between v w) h e = refl
-ranged-words (listed ls) h e = absurd h
+ranged-words (reported (between v w)) h e = refl
+ranged-words (reported (listed ls)) h e = absurd h
 
 ranged-sentence : (a : Answer) → Ranged a → paper a .sentence ≡ 0
 ranged-sentence (refused c n) h = refl
@@ -67,8 +67,8 @@ ranged-sentence done h = refl
 ranged-sentence (still n) h = refl
 ranged-sentence (clash k n) h = absurd h
 ranged-sentence (searched k n g) h = absurd h
-ranged-sentence (between v w) h = refl
-ranged-sentence (listed ls) h = refl
+ranged-sentence (reported (between v w)) h = refl
+ranged-sentence (reported (listed ls)) h = refl
 
 mark-small : (v : Extended) → mark v ≤ 2
 mark-small below = omega arith
@@ -84,15 +84,15 @@ answer-marked done = (omega arith, omega arith)
 answer-marked (still n) = (omega arith, omega arith)
 answer-marked (clash k n) = (omega arith, omega arith)
 answer-marked (searched k n g) = (omega arith, omega arith)
-answer-marked (between v w) = (mark-small v, mark-small w)
-answer-marked (listed ls) = (omega arith, omega arith)
+answer-marked (reported (between v w)) = (mark-small v, mark-small w)
+answer-marked (reported (listed ls)) = (omega arith, omega arith)
 
-module _ (w : List ℕ) (c : Counters) (k : ℕ) (p : Paper) (a : Answered base w c (bounds k) p) where
+module _ (w : List ℕ) (c : Counters) (k : ℕ) (p : Paper) (a : Answered base w c (report (bounds k) 0) p) where
   abbrev o : Outcome
-  o = reply (area-state base w) (bounds k)
+  o = reply (area-state base w) (report (bounds k) 0)
 
   ranged : Ranged (o .answer)
-  ranged = reply-by (λ y. Ranged (y .answer)) (area-state base w) (bounds k) (coded 9 (omega arith)) (coded 16 (omega arith), tt) tt
+  ranged = reply-by (λ y. Ranged (y .answer)) (area-state base w) (report (bounds k) 0) (coded 9 (omega arith)) (coded 16 (omega arith), (coded 18 (omega arith), tt)) tt
 
   code-of : Whole base w c → p .code ≡ paper (o .answer) .code
   code-of g = ap (λ (y : Paper). y .code) (a .told g)

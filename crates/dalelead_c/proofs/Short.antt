@@ -6,7 +6,7 @@ use Prim.Native.Nat.{ℕ, zero, suc, _-_, _<_, _≤_}
 use native.Mathlib.Omega.{arith}
 use lib.ListN.{length}
 use Rattle.types.specs.Limits.{base}
-use Rattle.book.specs.Table.{Call, propagate, refused, Paper, paper, propagated, Outcome, ended, reply}
+use Rattle.book.specs.Table.{Step, propagate, step, refused, Paper, paper, propagated, Outcome, ended, reply}
 use Rattle.book.specs.Book.{Counters}
 use Rattle.area.specs.Whole.{Whole}
 use Rattle.calls.specs.Calls.{area-state}
@@ -14,9 +14,9 @@ use Rattle.dalelead_c.specs.Interface.{packed}
 use Rattle.dalelead_c.specs.Inner.{ToldShort}
 use Rattle.dalelead_c.proofs.Telling.{Plain, refused-told, told-short}
 
-module _ (w : List ℕ) (c : Counters) (x : Call) (needed : ℕ) where
+module _ (w : List ℕ) (c : Counters) (x : Step) (needed : ℕ) where
   abbrev o : Outcome
-  o = reply (area-state base w) x
+  o = reply (area-state base w) (step x)
 
   pub short-broken : ¬ (Whole base w c) → ToldShort w c x needed 9
   short-broken b = record { broken = λ _. refl; answer = λ g. absurd (b g) }
@@ -42,6 +42,6 @@ ended-code : (k n : ℕ) → paper (ended k n) .code ≡ 0
 ended-code zero n = refl
 ended-code (suc k) n = refl
 
-pub propagate-passes : (w : List ℕ) → paper (reply (area-state base w) propagate .answer) .code ≡ 0
+pub propagate-passes : (w : List ℕ) → paper (reply (area-state base w) (step propagate) .answer) .code ≡ 0
 unfolding reply
 propagate-passes w = let q = area-state base w in ended-code (propagated q .sentence) (length (propagated q .rows) - length (q .rows))

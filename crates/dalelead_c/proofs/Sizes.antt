@@ -14,7 +14,7 @@ use Rattle.numbers.proofs.Words.{cases}
 use Rattle.meaning.specs.Meaning.{atom, Each, Said, silent, conflict, forced}
 use Rattle.meaning.specs.Merge.{Rule, scope}
 use Rattle.book.specs.Rows.{Row, row, trail, causes, row-of, numbered, comes-from, in-order}
-use Rattle.book.specs.Table.{Call, propagate, search, explain, explain-conflict, origin, list-trail, Paper, paper, Judged, scopes, State, Speech, nothing, objects, derives, spoken, speech, run, propagated, result, on-trail, Outcome, ended, End, end, apart, put-on, propagating, following, turning, tried, trying, reply}
+use Rattle.book.specs.Table.{propagate, search, Report, explain, explain-conflict, origin, list-trail, step, report, list-of, Paper, paper, Judged, scopes, State, Speech, nothing, objects, derives, spoken, speech, run, propagated, result, on-trail, Outcome, ended, End, end, apart, put-on, propagating, following, turning, tried, trying, reply}
 use Rattle.book.specs.Book.{Counters, judged-all}
 use Rattle.book.proofs.Keeps.{next, state-at}
 use Rattle.area.specs.Layout.{atoms-of, sentences-of, length-of, rows-of, record-at, rule-at, rules-from, theory-of}
@@ -66,14 +66,14 @@ ended-sentence zero n = refl
 ended-sentence (suc k) n = refl
 
 module _ (w : List ℕ) where
-  reply-sentence : paper (reply (area-state base w) propagate .answer) .sentence ≤ 65535
+  reply-sentence : paper (reply (area-state base w) (step propagate) .answer) .sentence ≤ 65535
   unfolding reply
   reply-sentence =
       let q = area-state base w in
       let is = ended-sentence (propagated q .sentence) (length (propagated q .rows) - length (q .rows)) in
       omega (arith, is, run-below (q .sentences) (q .level) (suc (q .atoms)) (q .rows), judged-count w)
 
-  pub conflict-small : (c : Counters) (p : Paper) → Answered base w c propagate p → p .sentence ≤ 65535
+  pub conflict-small : (c : Counters) (p : Paper) → Answered base w c (step propagate) p → p .sentence ≤ 65535
   conflict-small c p a =
       settled w c (p .sentence) 65535 (λ g. omega (arith, ap (λ (y : Paper). y .sentence) (a .told g), reply-sentence))
       (λ b. omega (arith, ap (λ (y : Paper). y .sentence) (a .broken b)))
@@ -108,10 +108,10 @@ module _ (x : Bool) (n top : ℕ) (js : List Judged) where
       go false false past more = turning-below d (suc g) (suc v) (row l (suc v) 0 ∷ rs) (λ p e. trying p e (suc g) ls) more
 
 module _ (w : List ℕ) (ls : List ℤ) where
-  search-sentence : paper (reply (area-state base w) (search ls) .answer) .sentence ≤ 65535
+  search-sentence : paper (reply (area-state base w) (step (search ls)) .answer) .sentence ≤ 65535
   search-sentence =
       let q = area-state base w in
-      reply-by (λ o. paper (o .answer) .sentence ≤ 65535) q (search ls) (omega arith) (omega arith, tt)
+      reply-by (λ o. paper (o .answer) .sentence ≤ 65535) q (step (search ls)) (omega arith) (omega arith, tt)
       (omega (
         arith,
         judged-count w,
@@ -119,18 +119,18 @@ module _ (w : List ℕ) (ls : List ℤ) where
             (λ rs′ e. trying-below false (q .atoms) (q .levels) (q .sentences) ls e 0 (q .level) rs′),
       ))
 
-  pub search-small : (c : Counters) (p : Paper) → Answered base w c (search ls) p → p .sentence ≤ 65535
+  pub search-small : (c : Counters) (p : Paper) → Answered base w c (step (search ls)) p → p .sentence ≤ 65535
   search-small c p a =
       settled w c (p .sentence) 65535 (λ g. omega (arith, ap (λ (y : Paper). y .sentence) (a .told g), search-sentence))
       (λ b. omega (arith, ap (λ (y : Paper). y .sentence) (a .broken b)))
 
   -- refused, it comes with no value
-  refused-bare : ¬ (paper (reply (area-state base w) (search ls) .answer) .code ≡ 0) → paper (reply (area-state base w) (search ls) .answer) .value ≤ 0
+  refused-bare : ¬ (paper (reply (area-state base w) (step (search ls)) .answer) .code ≡ 0) → paper (reply (area-state base w) (step (search ls)) .answer) .value ≤ 0
   refused-bare =
-      reply-by (λ o. ¬ (paper (o .answer) .code ≡ 0) → paper (o .answer) .value ≤ 0) (area-state base w) (search ls) (λ d. omega arith) ((λ d. omega arith), tt)
+      reply-by (λ o. ¬ (paper (o .answer) .code ≡ 0) → paper (o .answer) .value ≤ 0) (area-state base w) (step (search ls)) (λ d. omega arith) ((λ d. omega arith), tt)
       (λ d. absurd (d refl))
 
-  pub search-bare : (c : Counters) (p : Paper) → Answered base w c (search ls) p → ¬ (p .code ≡ 0) → p .value ≡ 0
+  pub search-bare : (c : Counters) (p : Paper) → Answered base w c (step (search ls)) p → ¬ (p .code ≡ 0) → p .value ≡ 0
   search-bare c p a d =
       let few : p .value ≤ 0 =
       settled w c (p .value) 0
@@ -185,8 +185,8 @@ module _ (w : List ℕ) (c : Counters) (g : Whole base w c) where
 
 -- a report's list
 
-abbrev Sized : State → Call → Outcome → Type 0
-Sized q x o = (paper (o .answer) .code ≤ 18) × (paper (o .answer) .value ≤ length (result q x))
+abbrev Sized : State → Report → Outcome → Type 0
+Sized q x o = (paper (o .answer) .code ≤ 18) × (paper (o .answer) .value ≤ length (list-of (result q x)))
 
 module _ (w : List ℕ) (c : Counters) (p : Paper) where
   abbrev q : State
@@ -195,8 +195,8 @@ module _ (w : List ℕ) (c : Counters) (p : Paper) where
   abbrev Small : Type 0
   Small = (p .code < 256) × (p .value < 4294967296)
 
-  small : (x : Call) → Answered base w c x p → Sized q x (reply q x) → (Whole base w c → length (result q x) ≤ 1000000) → Small
-  small x a s few =
+  small : (x : Report) (room : ℕ) → Answered base w c (report x room) p → Sized q x (reply q (report x room)) → (Whole base w c → length (list-of (result q x)) ≤ 1000000) → Small
+  small x room a s few =
       let code : p .code ≤ 18 =
       settled w c (p .code) 18 (λ g. omega (arith, ap (λ (y : Paper). y .code) (a .told g), s .0))
       (λ b. omega (arith, ap (λ (y : Paper). y .code) (a .broken b))) in
@@ -205,36 +205,36 @@ module _ (w : List ℕ) (c : Counters) (p : Paper) where
       (λ b. omega (arith, ap (λ (y : Paper). y .value) (a .broken b))) in
       (omega arith, omega arith)
 
-  pub trail-small : (room : ℕ) → Answered base w c (list-trail room) p → Small
+  pub trail-small : (room : ℕ) → Answered base w c (report list-trail room) p → Small
   trail-small room a =
-      small (list-trail room) a
-      (reply-by (Sized q (list-trail room)) q (list-trail room) (omega arith, omega arith) ((omega arith, omega arith), tt)
+      small list-trail room a
+      (reply-by (Sized q list-trail) q (report list-trail room) (omega arith, omega arith) ((omega arith, omega arith), tt)
       (omega arith, omega arith))
       (λ _. omega (arith, rows-size w (atoms-of w) (length-of w)))
 
-  pub origin-small : (l : ℤ) (room : ℕ) → Answered base w c (origin l room) p → Small
+  pub origin-small : (l : ℤ) (room : ℕ) → Answered base w c (report (origin l) room) p → Small
   origin-small l room a =
-      let x = origin l room in
-      small x a
-      (reply-by (Sized q x) q x (omega arith, omega arith)
+      let x = origin l in
+      small x room a
+      (reply-by (Sized q x) q (report x room) (omega arith, omega arith)
       ((omega arith, omega arith), ((omega arith, omega arith), ((omega arith, omega arith), tt))) (omega arith, omega arith))
       (λ _.
       let some = order-length (comes-from (scopes (q .sentences)) (q .rows) l) (trail (rows-of w)) in
       omega (arith, some, trail-length (rows-of w), rows-length w (atoms-of w) (length-of w)))
 
-  pub conflict-list-small : (k room : ℕ) → Answered base w c (explain-conflict k room) p → Small
+  pub conflict-list-small : (k room : ℕ) → Answered base w c (report (explain-conflict k) room) p → Small
   conflict-list-small k room a =
-      let x = explain-conflict k room in
-      small x a
-      (reply-by (Sized q x) q x (omega arith, omega arith)
+      let x = explain-conflict k in
+      small x room a
+      (reply-by (Sized q x) q (report x room) (omega arith, omega arith)
       ((omega arith, omega arith), ((omega arith, omega arith), ((omega arith, omega arith), tt))) (omega arith, omega arith))
       (λ g. omega (arith, causes-small w c g (trail (rows-of w)) k))
 
-  pub explanation-small : (l : ℤ) (room : ℕ) → Answered base w c (explain l room) p → Small
+  pub explanation-small : (l : ℤ) (room : ℕ) → Answered base w c (report (explain l) room) p → Small
   explanation-small l room a =
-      let x = explain l room in
-      small x a
-      (reply-by (Sized q x) q x (omega arith, omega arith)
+      let x = explain l in
+      small x room a
+      (reply-by (Sized q x) q (report x room) (omega arith, omega arith)
       ((omega arith, omega arith), ((omega arith, omega arith), ((omega arith, omega arith), ((omega arith, omega arith), tt))))
       (omega arith, omega arith))
       (λ g. omega (arith, causes-small w c g (trail (row-of l (rows-of w) .before)) (row-of l (rows-of w) .mine .reason)))

@@ -10,7 +10,7 @@ use lib.IntN.{ℤ}
 use lib.Dec.{T, ltb}
 use borrow.Author.Tests.{lt-ltb, le-ltb}
 use Rattle.meaning.specs.Meaning.{Each}
-use Rattle.book.specs.Table.{Call, give, open-level, take-back, propagate, search, Answer, refused, done, still, clash, searched, between, listed, paper, State, propagated, Refusal, refusal, refusals, Outcome, unchanged, ended, effect, decided, reply}
+use Rattle.book.specs.Table.{give, open-level, take-back, propagate, search, Call, step, between, listed, Answer, refused, done, still, clash, searched, reported, list-of, paper, State, propagated, Refusal, refusal, refusals, Outcome, unchanged, ended, effect, decided, reply}
 use Rattle.calls.specs.Calls.{is-refusal}
 use Rattle.dalelead_c.specs.Interface.{packed, told, refuses}
 
@@ -55,8 +55,8 @@ Plain done = Unit {0}
 Plain (still n) = Unit {0}
 Plain (clash k n) = Unit {0}
 Plain (searched k n g) = Unit {0}
-Plain (between v w) = Unit {0}
-Plain (listed ls) = ⊥
+Plain (reported (between v w)) = Unit {0}
+Plain (reported (listed ls)) = ⊥
 
 abbrev Plainly : Outcome → Type 0
 Plainly o = Plain (o .answer)
@@ -72,20 +72,20 @@ module _ (q : State) where
   nine : Plainly (unchanged q (refused 9 0))
   nine = coded 9 (omega arith)
 
-  pub give-plain : (l : ℤ) → Plain (reply q (give l) .answer)
-  give-plain l = reply-by Plainly q (give l) nine (coded 10 (omega arith), (coded 11 (omega arith), tt)) tt
+  pub give-plain : (l : ℤ) → Plain (reply q (step (give l)) .answer)
+  give-plain l = reply-by Plainly q (step (give l)) nine (coded 10 (omega arith), (coded 11 (omega arith), tt)) tt
 
-  pub open-plain : Plain (reply q open-level .answer)
-  open-plain = reply-by Plainly q open-level nine (coded 14 (omega arith), tt) tt
+  pub open-plain : Plain (reply q (step open-level) .answer)
+  open-plain = reply-by Plainly q (step open-level) nine (coded 14 (omega arith), tt) tt
 
-  pub take-back-plain : (k : ℕ) → Plain (reply q (take-back k) .answer)
-  take-back-plain k = reply-by Plainly q (take-back k) nine (coded 15 (omega arith), tt) tt
+  pub take-back-plain : (k : ℕ) → Plain (reply q (step (take-back k)) .answer)
+  take-back-plain k = reply-by Plainly q (step (take-back k)) nine (coded 15 (omega arith), tt) tt
 
-  pub propagate-plain : Plain (reply q propagate .answer)
-  propagate-plain = reply-by Plainly q propagate nine tt (ended-plain (propagated q .sentence) (length (propagated q .rows) - length (q .rows)))
+  pub propagate-plain : Plain (reply q (step propagate) .answer)
+  propagate-plain = reply-by Plainly q (step propagate) nine tt (ended-plain (propagated q .sentence) (length (propagated q .rows) - length (q .rows)))
 
-  pub search-plain : (ls : List ℤ) → Plain (reply q (search ls) .answer)
-  search-plain ls = reply-by Plainly q (search ls) nine (coded 10 (omega arith), tt) tt
+  pub search-plain : (ls : List ℤ) → Plain (reply q (step (search ls)) .answer)
+  search-plain ls = reply-by Plainly q (step (search ls)) nine (coded 10 (omega arith), tt) tt
 
 -- ---- refused
 
@@ -95,8 +95,8 @@ refused-is done d = absurd (d refl)
 refused-is (still n) d = absurd (d refl)
 refused-is (clash k n) d = absurd (d refl)
 refused-is (searched k n g) d = absurd (d refl)
-refused-is (between v w) d = absurd (d refl)
-refused-is (listed ls) d = absurd (d refl)
+refused-is (reported (between v w)) d = absurd (d refl)
+refused-is (reported (listed ls)) d = absurd (d refl)
 
 pub refused-told : (a : Answer) (needed room : ℕ) → ¬ (paper a .code ≡ 0) → told a needed room ≡ packed (paper a .code) (paper a .value)
 refused-told (refused c n) needed room d = refl
@@ -104,8 +104,8 @@ refused-told done needed room d = absurd (d refl)
 refused-told (still n) needed room d = absurd (d refl)
 refused-told (clash k n) needed room d = absurd (d refl)
 refused-told (searched k n g) needed room d = absurd (d refl)
-refused-told (between v w) needed room d = absurd (d refl)
-refused-told (listed ls) needed room d = absurd (d refl)
+refused-told (reported (between v w)) needed room d = absurd (d refl)
+refused-told (reported (listed ls)) needed room d = absurd (d refl)
 
 -- ---- not refused
 
@@ -115,8 +115,8 @@ passed-is done p e = refl
 passed-is (still n) p e = refl
 passed-is (clash k n) p e = refl
 passed-is (searched k n g) p e = refl
-passed-is (between v w) p e = refl
-passed-is (listed ls) p e = absurd p
+passed-is (reported (between v w)) p e = refl
+passed-is (reported (listed ls)) p e = absurd p
 
 -- the sentence in conflict is the value
 passed-told : (a : Answer) (needed room : ℕ) → Plain a → paper a .code ≡ 0
@@ -126,8 +126,8 @@ passed-told done needed room p e = refl
 passed-told (still n) needed room p e = refl
 passed-told (clash k n) needed room p e = refl
 passed-told (searched k n g) needed room p e = refl
-passed-told (between v w) needed room p e = refl
-passed-told (listed ls) needed room p e = absurd p
+passed-told (reported (between v w)) needed room p e = refl
+passed-told (reported (listed ls)) needed room p e = absurd p
 
 module _ (a : Answer) (needed room : ℕ) (p : Plain a) (e : paper a .code ≡ 0) where
   pub told-short : room < needed → told a needed room ≡ packed 18 needed
@@ -152,8 +152,7 @@ told-few a needed room h = go a (lt-ltb 0 needed (omega arith)) (lt-ltb room nee
     go (still n) x y = same (packed 0 0) x y
     go (clash k n) x y = same (packed 0 k) x y
     go (searched k n g) x y = same (packed 0 k) x y
-    go (between v w) x y = same (packed 0 0) x y
-    go (listed ls) x y = same (packed 0 (length ls)) x y
+    go (reported r) x y = same (packed 0 (length (list-of r))) x y
 
 pub few-refuses : (a : Answer) (needed room : ℕ) → room < needed → refuses a needed room ≡ true
 few-refuses a needed room h = right-true (is-refusal a) (ltb room needed) (lt-ltb room needed h)

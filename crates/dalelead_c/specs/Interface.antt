@@ -8,7 +8,7 @@ use lib.ListN.{length, drop}
 use lib.IntN.{ℤ, pos}
 use lib.Dec.{T, eqb, leb, ltb}
 use Rattle.types.specs.Limits.{base}
-use Rattle.book.specs.Table.{Call, Answer, refused, done, still, clash, searched, between, listed, paper, list-after, mark, number, Outcome, reply}
+use Rattle.book.specs.Table.{Step, Report, step, report, between, listed, Answer, refused, done, still, clash, searched, reported, list-of, paper, list-after, mark, number, Outcome, reply}
 use Rattle.book.specs.Book.{Counters}
 use Rattle.area.specs.Layout.{rows-of}
 use Rattle.area.specs.Whole.{Whole}
@@ -30,8 +30,7 @@ value-of done = 0
 value-of (still n) = 0
 value-of (clash k n) = k
 value-of (searched k n g) = k
-value-of (between v w) = 0
-value-of (listed ls) = length ls
+value-of (reported r) = length (list-of r)
 
 -- the table's refusal, then 18 where the lent words are too few, with those that are needed
 abbrev pub told : Answer → (needed room : ℕ) → ℕ
@@ -40,8 +39,7 @@ told done needed room = cond (ltb room needed) (packed 18 needed) (packed 0 (val
 told (still n) needed room = cond (ltb room needed) (packed 18 needed) (packed 0 (value-of (still n)))
 told (clash k n) needed room = cond (ltb room needed) (packed 18 needed) (packed 0 (value-of (clash k n)))
 told (searched k n g) needed room = cond (ltb room needed) (packed 18 needed) (packed 0 (value-of (searched k n g)))
-told (between v w) needed room = cond (ltb room needed) (packed 18 needed) (packed 0 (value-of (between v w)))
-told (listed ls) needed room = cond (ltb room needed) (packed 18 needed) (packed 0 (value-of (listed ls)))
+told (reported r) needed room = cond (ltb room needed) (packed 18 needed) (packed 0 (value-of (reported r)))
 
 abbrev pub refuses : Answer → (needed room : ℕ) → Bool
 refuses a needed room = is-refusal a || ltb room needed
@@ -53,16 +51,16 @@ module _ {A : Type 0} where
 
 -- ---- calls that change the area; `handed` is what goes into the lent words
 
-pub record Changes (w w′ : List ℕ) (c : Counters) (x : Call) (handed : Outcome → List ℕ) (out out′ : List ℕ) (r : ℕ) : Type 0 where
+pub record Changes (w w′ : List ℕ) (c : Counters) (x : Step) (handed : Outcome → List ℕ) (out out′ : List ℕ) (r : ℕ) : Type 0 where
   pub broken : ¬ (Whole base w c) → (r ≡ packed 9 0) × (w′ ≡ w) × (out′ ≡ out)
-  pub answer : Whole base w c → r ≡ told (reply (area-state base w) x .answer) (length (handed (reply (area-state base w) x))) (length out)
-  pub kept : Whole base w c → T (refuses (reply (area-state base w) x .answer) (length (handed (reply (area-state base w) x))) (length out)) → (w′ ≡ w) × (out′ ≡ out)
-  pub written : Whole base w c → T (not (refuses (reply (area-state base w) x .answer) (length (handed (reply (area-state base w) x))) (length out)))
-      → out′ ≡ fronted (handed (reply (area-state base w) x)) out
+  pub answer : Whole base w c → r ≡ told (reply (area-state base w) (step x) .answer) (length (handed (reply (area-state base w) (step x)))) (length out)
+  pub kept : Whole base w c → T (refuses (reply (area-state base w) (step x) .answer) (length (handed (reply (area-state base w) (step x)))) (length out)) → (w′ ≡ w) × (out′ ≡ out)
+  pub written : Whole base w c → T (not (refuses (reply (area-state base w) (step x) .answer) (length (handed (reply (area-state base w) (step x)))) (length out)))
+      → out′ ≡ fronted (handed (reply (area-state base w) (step x))) out
   -- taking back to the current level keeps the words too
   pub idle : Whole base w c → T (keeps (area-state base w) x) → w′ ≡ w
-  pub moved : Whole base w c → T (not (keeps (area-state base w) x)) → T (not (ltb (length out) (length (handed (reply (area-state base w) x)))))
-      → Moved base w w′ (record { length-is = length (reply (area-state base w) x .rows); level-is = reply (area-state base w) x .level }) (reply (area-state base w) x)
+  pub moved : Whole base w c → T (not (keeps (area-state base w) x)) → T (not (ltb (length out) (length (handed (reply (area-state base w) (step x))))))
+      → Moved base w w′ (record { length-is = length (reply (area-state base w) (step x) .rows); level-is = reply (area-state base w) (step x) .level }) (reply (area-state base w) (step x))
 
 -- the counters after the call
 abbrev pub next-counters : Outcome → List ℕ
@@ -85,20 +83,20 @@ bound-words done = []
 bound-words (still n) = []
 bound-words (clash k n) = []
 bound-words (searched k n g) = []
-bound-words (between v w) = pos (mark v) ∷ number v ∷ pos (mark w) ∷ number w ∷ []
-bound-words (listed ls) = []
+bound-words (reported (between v w)) = pos (mark v) ∷ number v ∷ pos (mark w) ∷ number w ∷ []
+bound-words (reported (listed ls)) = []
 
-pub record ReportsBounds (w : List ℕ) (c : Counters) (x : Call) (out out′ : List ℤ) (r : ℕ) : Type 0 where
+pub record ReportsBounds (w : List ℕ) (c : Counters) (x : Report) (out out′ : List ℤ) (r : ℕ) : Type 0 where
   pub broken : ¬ (Whole base w c) → (r ≡ packed 9 0) × (out′ ≡ out)
-  pub answer : Whole base w c → r ≡ told (reply (area-state base w) x .answer) 4 (length out)
-  pub kept : Whole base w c → T (refuses (reply (area-state base w) x .answer) 4 (length out)) → out′ ≡ out
-  pub written : Whole base w c → T (not (refuses (reply (area-state base w) x .answer) 4 (length out))) → out′ ≡ fronted (bound-words (reply (area-state base w) x .answer)) out
+  pub answer : Whole base w c → r ≡ told (reply (area-state base w) (report x 0) .answer) 4 (length out)
+  pub kept : Whole base w c → T (refuses (reply (area-state base w) (report x 0) .answer) 4 (length out)) → out′ ≡ out
+  pub written : Whole base w c → T (not (refuses (reply (area-state base w) (report x 0) .answer) 4 (length out))) → out′ ≡ fronted (bound-words (reply (area-state base w) (report x 0) .answer)) out
 
 -- the table itself decides 18 for a list
-pub record ReportsList (w : List ℕ) (c : Counters) (x : Call) (out out′ : List ℤ) (r : ℕ) : Type 0 where
+pub record ReportsList (w : List ℕ) (c : Counters) (x : Report) (out out′ : List ℤ) (r : ℕ) : Type 0 where
   pub broken : ¬ (Whole base w c) → (r ≡ packed 9 0) × (out′ ≡ out)
-  pub answer : Whole base w c → r ≡ packed (paper (reply (area-state base w) x .answer) .code) (paper (reply (area-state base w) x .answer) .value)
-  pub written : Whole base w c → out′ ≡ list-after (reply (area-state base w) x .answer) out
+  pub answer : Whole base w c → r ≡ packed (paper (reply (area-state base w) (report x (length out)) .answer) .code) (paper (reply (area-state base w) (report x (length out)) .answer) .value)
+  pub written : Whole base w c → out′ ≡ list-after (reply (area-state base w) (report x (length out)) .answer) out
 
 -- ---- load
 

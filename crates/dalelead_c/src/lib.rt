@@ -435,7 +435,7 @@ pub extern "C" fn dalelead_explain(
     literal: i64,
     list: &mut [i64],
 ) -> u64
-    ensures { λ r. ⌜ ReportsList (now (area .entry)) (counters length level) (explain literal (size-of (now (list .entry)))) (now (list .entry)) (now (list .exit)) r ⌝ }
+    ensures { λ r. ⌜ ReportsList (now (area .entry)) (counters length level) (explain literal) (now (list .entry)) (now (list .exit)) r ⌝ }
 {
     let had = Counters {
         length,
@@ -454,7 +454,7 @@ pub extern "C" fn dalelead_explain_conflict(
     sentence: u64,
     list: &mut [i64],
 ) -> u64
-    ensures { λ r. ⌜ ReportsList (now (area .entry)) (counters length level) (explain-conflict sentence (size-of (now (list .entry)))) (now (list .entry)) (now (list .exit)) r ⌝ }
+    ensures { λ r. ⌜ ReportsList (now (area .entry)) (counters length level) (explain-conflict sentence) (now (list .entry)) (now (list .exit)) r ⌝ }
 {
     let had = Counters {
         length,
@@ -473,7 +473,7 @@ pub extern "C" fn dalelead_origin(
     literal: i64,
     list: &mut [i64],
 ) -> u64
-    ensures { λ r. ⌜ ReportsList (now (area .entry)) (counters length level) (origin literal (size-of (now (list .entry)))) (now (list .entry)) (now (list .exit)) r ⌝ }
+    ensures { λ r. ⌜ ReportsList (now (area .entry)) (counters length level) (origin literal) (now (list .entry)) (now (list .exit)) r ⌝ }
 {
     let had = Counters {
         length,
@@ -486,7 +486,7 @@ pub extern "C" fn dalelead_origin(
 // Literal, level and reason of each row.
 #[no_mangle]
 pub extern "C" fn dalelead_trail(area: &[u64], length: u64, level: u64, list: &mut [i64]) -> u64
-    ensures { λ r. ⌜ ReportsList (now (area .entry)) (counters length level) (list-trail (size-of (now (list .entry)))) (now (list .entry)) (now (list .exit)) r ⌝ }
+    ensures { λ r. ⌜ ReportsList (now (area .entry)) (counters length level) list-trail (now (list .entry)) (now (list .exit)) r ⌝ }
 {
     let had = Counters {
         length,

@@ -25,7 +25,7 @@ returns c = let s = c .before .before .before .before .before in
     let old = s .args .list .now in
     let found = c .before .before .explain-conflict in
     let l = found .ensures in
-    reports-list w had (explain-conflict (s .args .sentence) (length old)) old _ (listed-paper (found .result)) (c .answer .result) l
+    reports-list w had (explain-conflict (s .args .sentence)) old _ (listed-paper (found .result)) (c .answer .result) l
     (c .answer .ensures)
 
 pub dalelead-explain-conflict-spec : {M : Type 1} → statement M

@@ -25,7 +25,7 @@ returns c = let s = c .before .before .before .before .before in
     let old = s .args .list .now in
     let found = c .before .before .list-trail in
     let l = found .ensures in
-    reports-list w had (list-trail (length old)) old _ (listed-paper (found .result)) (c .answer .result) l (c .answer .ensures)
+    reports-list w had list-trail old _ (listed-paper (found .result)) (c .answer .result) l (c .answer .ensures)
 
 pub dalelead-trail-spec : {M : Type 1} → statement M
 dalelead-trail-spec = tie.close
