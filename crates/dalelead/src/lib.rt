@@ -42,28 +42,28 @@ pub fn load(
 
 // Give: a literal is put on at the current level.
 pub fn give(area: &mut [u64], counters: Counters, literal: i64) -> Done
-    ensures { λ r. ⌜ Gives (now (area .entry)) (now (area .exit)) counters literal r ⌝ }
+    ensures { λ r. ⌜ Gives base (now (area .entry)) (now (area .exit)) counters literal r ⌝ }
 {
     trail::give_within(area, Limits::base(), counters, literal)
 }
 
 // Open: the level rises by one.
 pub fn open_level(area: &mut [u64], counters: Counters) -> Done
-    ensures { λ r. ⌜ Opens (now (area .entry)) (now (area .exit)) counters r ⌝ }
+    ensures { λ r. ⌜ Opens base (now (area .entry)) (now (area .exit)) counters r ⌝ }
 {
     levels::open_within(area, Limits::base(), counters)
 }
 
 // Take back to a level: all literals of higher levels go.
 pub fn take_back(area: &mut [u64], counters: Counters, level: Level) -> Done
-    ensures { λ r. ⌜ TakesBack (now (area .entry)) (now (area .exit)) counters (level .0) r ⌝ }
+    ensures { λ r. ⌜ TakesBack base (now (area .entry)) (now (area .exit)) counters (level .0) r ⌝ }
 {
     levels::take_back_within(area, Limits::base(), counters, level)
 }
 
 // Propagate: what follows is put on, until no sentence has anything to say or one is in conflict.
 pub fn propagate(area: &mut [u64], counters: Counters) -> propagate::Propagated
-    ensures { λ r. ⌜ Propagates (now (area .entry)) (now (area .exit)) counters r ⌝ }
+    ensures { λ r. ⌜ Propagates base (now (area .entry)) (now (area .exit)) counters r ⌝ }
 {
     propagate::propagate_within(area, Limits::base(), counters)
 }
@@ -71,21 +71,21 @@ pub fn propagate(area: &mut [u64], counters: Counters) -> propagate::Propagated
 // The search loop: propagate; from still open a level and give the next literal of the list whose atom is open, until the list is done, a
 // sentence is in conflict or the highest level is reached. Its answer says how many literals of the list it went through.
 pub fn search(area: &mut [u64], counters: Counters, literals: &[i64]) -> search::Searched
-    ensures { λ r. ⌜ SearchesFor (now (area .entry)) (now (area .exit)) counters (now (literals .entry)) r ⌝ }
+    ensures { λ r. ⌜ SearchesFor base (now (area .entry)) (now (area .exit)) counters (now (literals .entry)) r ⌝ }
 {
     search::search_within(area, Limits::base(), counters, literals)
 }
 
 // The least and the greatest value of a sentence, for the set as written, over the full assignments that agree with the trail.
 pub fn bounds(area: &[u64], counters: Counters, sentence: Sentence) -> calls::Bounds
-    ensures { λ r. ⌜ ReadsBounds (now (area .entry)) counters (sentence .0) r ⌝ }
+    ensures { λ r. ⌜ ReadsBounds base (now (area .entry)) counters (sentence .0) r ⌝ }
 {
     reports::bounds_within(area, Limits::base(), counters, sentence)
 }
 
 // The explanation of a derived literal: the literal, then the negations of the literals put on before it whose atoms its reason has.
 pub fn explain(area: &[u64], counters: Counters, literal: i64, list: &mut [i64]) -> Listed
-    ensures { λ r. ⌜ ListsExplanation (now (area .entry)) counters literal (now (list .entry)) (now (list .exit)) r ⌝ }
+    ensures { λ r. ⌜ ListsExplanation base (now (area .entry)) counters literal (now (list .entry)) (now (list .exit)) r ⌝ }
 {
     explain::explain_within(area, Limits::base(), counters, literal, list)
 }
@@ -97,21 +97,21 @@ pub fn explain_conflict(
     sentence: Sentence,
     list: &mut [i64],
 ) -> Listed
-    ensures { λ r. ⌜ ListsConflict (now (area .entry)) counters (sentence .0) (now (list .entry)) (now (list .exit)) r ⌝ }
+    ensures { λ r. ⌜ ListsConflict base (now (area .entry)) counters (sentence .0) (now (list .entry)) (now (list .exit)) r ⌝ }
 {
     explain::explain_conflict_within(area, Limits::base(), counters, sentence, list)
 }
 
 // The given literals that a literal of the trail rests on, in the order of the trail.
 pub fn origin(area: &[u64], counters: Counters, literal: i64, list: &mut [i64]) -> Listed
-    ensures { λ r. ⌜ ListsOrigin (now (area .entry)) counters literal (now (list .entry)) (now (list .exit)) r ⌝ }
+    ensures { λ r. ⌜ ListsOrigin base (now (area .entry)) counters literal (now (list .entry)) (now (list .exit)) r ⌝ }
 {
     origin::origin_within(area, Limits::base(), counters, literal, list)
 }
 
 // The trail: literal, level and reason of each row, in order.
 pub fn list_trail(area: &[u64], counters: Counters, list: &mut [i64]) -> Listed
-    ensures { λ r. ⌜ ListsTrail (now (area .entry)) counters (now (list .entry)) (now (list .exit)) r ⌝ }
+    ensures { λ r. ⌜ ListsTrail base (now (area .entry)) counters (now (list .entry)) (now (list .exit)) r ⌝ }
 {
     reports::list_trail_within(area, Limits::base(), counters, list)
 }

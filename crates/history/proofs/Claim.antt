@@ -7,7 +7,8 @@ use Prim.Native.Nat.{ℕ, suc, _-_, _<_}
 use native.Mathlib.Omega.{arith}
 use lib.ListN.{length, take}
 use lib.IntN.{ℤ}
-use Rattle.types.specs.Limits.{base}
+use Rattle.types.specs.declared.Limits.{Limits}
+use Rattle.types.specs.Limits.{Fitting}
 use Rattle.types.specs.declared.Counters as t
 use Rattle.numbers.specs.Words.{unword}
 use Rattle.meaning.specs.Meaning.{Sentence, Each}
@@ -30,7 +31,6 @@ use Rattle.reports.proofs.Replies.{bounds-stored}
 use Rattle.reports.proofs.Meaning.{bounds-mean}
 use Rattle.columns.specs.Columns.{all-written, sentences-in}
 use Rattle.columns.specs.declared.Answer as load
-use Rattle.load.proofs.Base.{base-fits}
 use Rattle.dalelead.specs.Public.{ListsExplanation, ListsConflict, ListsOrigin}
 use Rattle.history.specs.History.{Event, asked-in, HandedBack, Claim, History}
 use Rattle.history.proofs.Sentences.{loaded-well-formed, sentences-are}
@@ -43,47 +43,47 @@ use Rattle.history.proofs.Steps.{Followed, followed}
 abbrev printed : Answer → Listed
 printed a = record { code = paper a .code; value = paper a .value }
 
-module _ (n : ℕ) (ss : List Sentence) (well : Each (WellFormed n) ss) (w : List ℕ) (c : t.Counters) (s : Stands n ss w (counted c)) where
+module _ (lim : Limits) (fit : Fitting lim) (n : ℕ) (ss : List Sentence) (well : Each (WellFormed n) ss) (w : List ℕ) (c : t.Counters) (s : Stands lim n ss w (counted c)) where
   abbrev q : State
-  q = area-state base w
+  q = area-state lim w
 
   abbrev book-q : State
-  book-q = book-state base (computed ss) (book-of n ss w) (length w) (counted c)
+  book-q = book-state lim (computed ss) (book-of n ss w) (length w) (counted c)
 
   book-state-is : q ≡ book-q
-  book-state-is = state-is n ss w (counted c) s (length w) (counted c) (whole-fits n ss w (counted c) s (counted c) (s .whole))
+  book-state-is = state-is lim n ss w (counted c) s (length w) (counted c) (whole-fits lim n ss w (counted c) s (counted c) (s .whole))
 
   bounds-right : (k : ℕ) → k < length ss → Bounded ss (trail (rows-of w)) (suc k) (unword (least-at w (record-at n k))) (unword (greatest-at w (record-at n k)))
   bounds-right k l =
       let at = record-at (atoms-of w) (suc k - 1) in
       let e : suc k - 1 ≡ k = omega arith in
-      let b = bounds-stored base w (counted c) base-fits (s .whole) (suc k) (omega arith) (omega (arith, sentences-are w n ss (s .atoms) (s .theory))) in
+      let b = bounds-stored lim w (counted c) fit (s .whole) (suc k) (omega arith) (omega (arith, sentences-are w n ss (s .atoms) (s .theory))) in
       subst (λ i. Bounded ss (trail (rows-of w)) (suc k) (unword (least-at w i)) (unword (greatest-at w i))) (ap₂ {A = ℕ} {B = ℕ} record-at (s .atoms) e)
-      (bounds-mean base w (counted c) (s .whole) n ss well (s .theory) (suc k) (unword (least-at w at)) (unword (greatest-at w at)) b)
+      (bounds-mean lim w (counted c) (s .whole) n ss well (s .theory) (suc k) (unword (least-at w at)) (unword (greatest-at w at)) b)
 
   -- a list that is handed back is of the book's result, and stands in front: what holds of the book's result holds of it
-  module _ (x : Report) (old new : List ℤ) (r : Listed) (a : Reports base w (counted c) x old new (listed-paper r)) (z : r .code ≡ 0) where
+  module _ (x : Report) (old new : List ℤ) (r : Listed) (a : Reports lim w (counted c) x old new (listed-paper r)) (z : r .code ≡ 0) where
     told : (P : List ℤ → Type 0) → (reply book-q (report x (length old)) .answer ≡ reported (result q x) → P (list-of (result q x))) → P (take (r .value) new)
     told P means =
-        subst P (sym (taken base w (counted c) (s .whole) x old new (listed-paper r) a z))
-        (means (ap {A = State} (λ y. reply y (report x (length old)) .answer) (sym book-state-is) ∙ reported-here base w (counted c) (s .whole) x old new (listed-paper r) a z))
+        subst P (sym (taken lim w (counted c) (s .whole) x old new (listed-paper r) a z))
+        (means (ap {A = State} (λ y. reply y (report x (length old)) .answer) (sym book-state-is) ∙ reported-here lim w (counted c) (s .whole) x old new (listed-paper r) a z))
 
-  explained-right : (l : ℤ) (old new : List ℤ) (r : Listed) → ListsExplanation w c l old new r → r .code ≡ 0 → Explains ss (rows-of w) l (take (r .value) new)
+  explained-right : (l : ℤ) (old new : List ℤ) (r : Listed) → ListsExplanation lim w c l old new r → r .code ≡ 0 → Explains ss (rows-of w) l (take (r .value) new)
   explained-right l old new r a z =
       told (explain l) old new r a z (Explains ss (rows-of w) l)
-      (explain-means base (computed ss) (book-of n ss w) (all-judged n ss well) (s .sound) (length w) (counted c) (all-blind n ss well) l (length old) (list-of (result q (explain l))))
+      (explain-means lim (computed ss) (book-of n ss w) (all-judged n ss well) (s .sound) (length w) (counted c) (all-blind n ss well) l (length old) (list-of (result q (explain l))))
 
-  conflict-right : (k : ℕ) (old new : List ℤ) (r : Listed) → ListsConflict w c k old new r → r .code ≡ 0 → ExplainsConflict ss (rows-of w) k (take (r .value) new)
+  conflict-right : (k : ℕ) (old new : List ℤ) (r : Listed) → ListsConflict lim w c k old new r → r .code ≡ 0 → ExplainsConflict ss (rows-of w) k (take (r .value) new)
   conflict-right k old new r a z =
       told (explain-conflict k) old new r a z (ExplainsConflict ss (rows-of w) k)
-      (explain-conflict-means base (computed ss) (book-of n ss w) (all-judged n ss well) (s .sound) (length w) (counted c) (all-blind n ss well) k (length old) (list-of (result q (explain-conflict k))))
+      (explain-conflict-means lim (computed ss) (book-of n ss w) (all-judged n ss well) (s .sound) (length w) (counted c) (all-blind n ss well) k (length old) (list-of (result q (explain-conflict k))))
 
-  origin-right : (l : ℤ) (old new : List ℤ) (r : Listed) → ListsOrigin w c l old new r → r .code ≡ 0 → OriginList ss (rows-of w) l (take (r .value) new)
+  origin-right : (l : ℤ) (old new : List ℤ) (r : Listed) → ListsOrigin lim w c l old new r → r .code ≡ 0 → OriginList ss (rows-of w) l (take (r .value) new)
   origin-right l old new r a z =
       told (origin l) old new r a z (OriginList ss (rows-of w) l)
-      (origin-means base (computed ss) (book-of n ss w) (all-judged n ss well) (s .sound) (length w) (counted c) (all-blind n ss well) l (length old) (list-of (result q (origin l))))
+      (origin-means lim (computed ss) (book-of n ss w) (all-judged n ss well) (s .sound) (length w) (counted c) (all-blind n ss well) l (length old) (list-of (result q (origin l))))
 
-  origin-has-answer : (l : ℤ) (old : List ℤ) → (new : List ℤ) × (r : Listed) × ListsOrigin w c l old new r
+  origin-has-answer : (l : ℤ) (old : List ℤ) → (new : List ℤ) × (r : Listed) × ListsOrigin lim w c l old new r
   origin-has-answer l old =
       let x = report (origin l) (length old) in
       let a = reply q x .answer in
@@ -91,7 +91,7 @@ module _ (n : ℕ) (ss : List Sentence) (well : Each (WellFormed n) ss) (w : Lis
         list-after a old,
         printed a,
         record {
-          answer = answered-whole base w (counted c) x (listed-paper (printed a)) (s .whole) e;
+          answer = answered-whole lim w (counted c) x (listed-paper (printed a)) (s .whole) e;
           broken = λ b. absurd (b (s .whole));
           written = λ _. refl;
         },
@@ -99,10 +99,10 @@ module _ (n : ℕ) (ss : List Sentence) (well : Each (WellFormed n) ss) (w : Lis
 
 -- ---- the claim
 
-module _ (n : ℕ) (ss : List Sentence) (well : Each (WellFormed n) ss) (w w′ : List ℕ) (c : t.Counters) (es : List Event) where
-  claimed : book-of n ss w ≡ fresh n ss → Followed n ss well w es w′ c → Claim n ss w es w′ c
+module _ (lim : Limits) (fit : Fitting lim) (n : ℕ) (ss : List Sentence) (well : Each (WellFormed n) ss) (w w′ : List ℕ) (c : t.Counters) (es : List Event) where
+  claimed : book-of n ss w ≡ fresh n ss → Followed lim n ss well w es w′ c → Claim lim n ss w es w′ c
   claimed e f = record {
-    answers-are = λ js m. subst (HandedBack es) (answers-same base (fresh n ss) (computed ss) js scoped judges m tt (asked-in es)) answers-computed;
+    answers-are = λ js m. subst (HandedBack es) (answers-same lim (fresh n ss) (computed ss) js scoped judges m tt (asked-in es)) answers-computed;
     judged = judges;
     whole = s .whole;
     atoms = s .atoms;
@@ -113,15 +113,15 @@ module _ (n : ℕ) (ss : List Sentence) (well : Each (WellFormed n) ss) (w w′ 
     level = λ js m. ap {A = Book} (λ b. b .level) (book-is js m);
     counters =
         ap₂ {A = ℕ} {B = ℕ} {C = Counters} (λ k v. record { length-is = k; level-is = v })
-        (sym (rows-count base w′ (counted c) (s .whole))) (sym (s .whole .level-is));
-    bounds-are = bounds-right n ss well w′ c s;
-    explained = explained-right n ss well w′ c s;
-    conflict-explained = conflict-right n ss well w′ c s;
-    origin-answered = origin-has-answer n ss well w′ c s;
-    originated = origin-right n ss well w′ c s;
+        (sym (rows-count lim w′ (counted c) (s .whole))) (sym (s .whole .level-is));
+    bounds-are = bounds-right lim fit n ss well w′ c s;
+    explained = explained-right lim fit n ss well w′ c s;
+    conflict-explained = conflict-right lim fit n ss well w′ c s;
+    origin-answered = origin-has-answer lim fit n ss well w′ c s;
+    originated = origin-right lim fit n ss well w′ c s;
   }
     where
-      s : Stands n ss w′ (counted c)
+      s : Stands lim n ss w′ (counted c)
       s = f .stands
 
       judges : JudgesAll ss (computed ss)
@@ -130,23 +130,23 @@ module _ (n : ℕ) (ss : List Sentence) (well : Each (WellFormed n) ss) (w w′ 
       scoped : Each (Scoped n) ss
       scoped = all-scoped n ss well
 
-      answers-computed : HandedBack es (answers base (computed ss) (fresh n ss) (asked-in es))
-      answers-computed = subst (λ b. HandedBack es (answers base (computed ss) b (asked-in es))) e (f .handed)
+      answers-computed : HandedBack es (answers lim (computed ss) (fresh n ss) (asked-in es))
+      answers-computed = subst (λ b. HandedBack es (answers lim (computed ss) b (asked-in es))) e (f .handed)
 
-      book-is : (js : List Judged) → JudgesAll ss js → book-of n ss w′ ≡ played base js (fresh n ss) (asked-in es)
+      book-is : (js : List Judged) → JudgesAll ss js → book-of n ss w′ ≡ played lim js (fresh n ss) (asked-in es)
       book-is js m =
           sym (f .book)
-          ∙ ap {A = Book} (λ b. played base (computed ss) b (asked-in es)) e
-          ∙ played-same base (fresh n ss) (computed ss) js scoped judges m tt (asked-in es)
+          ∙ ap {A = Book} (λ b. played lim (computed ss) b (asked-in es)) e
+          ∙ played-same lim (fresh n ss) (computed ss) js scoped judges m tt (asked-in es)
 
-pub history : History
-history w₀ w n columns r loads code es w′ c calls =
+pub history : (lim : Limits) → Fitting lim → History lim
+history lim fit w₀ w n columns r loads code es w′ c calls =
     let ss = sentences-in (all-written columns) in
     let l = loads .accepted code in
-    let well = loaded-well-formed base (length w₀) n columns (ap {A = load.Answer} (λ a. a .code) (sym (loads .answer-is)) ∙ code) in
-    claimed n ss well w w′ c es
+    let well = loaded-well-formed lim (length w₀) n columns (ap {A = load.Answer} (λ a. a .code) (sym (loads .answer-is)) ∙ code) in
+    claimed lim fit n ss well w w′ c es
     (ap₂ {A = ℕ} {B = List Row} {C = Book} (λ v rs. record { atoms = n; sentences = ss; level = v; rows = rs }) (l .level) (l .rows))
-    (followed n ss well calls
+    (followed lim n ss well calls
     (record {
       whole = l .whole;
       atoms = l .atoms;

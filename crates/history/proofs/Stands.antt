@@ -9,7 +9,7 @@ use native.Mathlib.Omega.{arith}
 use borrow.Author.Tests.{eqb-true, eq-eqb, le-leb, lt-leb}
 use lib.ListN.{length}
 use lib.Dec.{eqb, leb}
-use Rattle.types.specs.Limits.{base}
+use Rattle.types.specs.declared.Limits.{Limits}
 use Rattle.meaning.specs.Meaning.{Sentence}
 use Rattle.meaning.specs.Merge.{Rule}
 use Rattle.book.specs.Rows.{Row}
@@ -51,36 +51,37 @@ module _ (n : ℕ) (ss : List Sentence) where
   abbrev pub book-of : List ℕ → Book
   book-of w = record { atoms = n; sentences = ss; level = level-of w; rows = rows-of w }
 
+module _ (lim : Limits) (n : ℕ) (ss : List Sentence) where
   pub record Stands (w : List ℕ) (c : Counters) : Type 0 where
-    pub whole : Whole base w c
+    pub whole : Whole lim w c
     pub atoms : atoms-of w ≡ n
     pub theory : theory-of w ≡ rules-of ss
     pub sound : Sound n ss (level-of w) (rows-of w)
 
   abbrev state : Bool → ℕ → List Rule → List ℕ → State
-  state b k rs w = record { broken = b; atoms = k; levels = base .levels; sentences = judged-all rs; level = level-of w; rows = rows-of w }
+  state b k rs w = record { broken = b; atoms = k; levels = lim .levels; sentences = judged-all rs; level = level-of w; rows = rows-of w }
 
   module _ (w : List ℕ) (c : Counters) (s : Stands w c) where
     needed : need-of w ≡ need n ss
     needed = need-is w n ss (s .atoms) (s .theory)
 
-    pub whole-fits : (d : Counters) → Whole base w d → fits (book-of w) (length w) d ≡ true
+    pub whole-fits : (d : Counters) → Whole lim w d → fits (book-of n ss w) (length w) d ≡ true
     whole-fits d h =
         all-pass (eqb (d .length-is) (length (rows-of w))) (eqb (d .level-is) (level-of w)) (leb (need n ss) (length w))
-        (eq-eqb (d .length-is) (length (rows-of w)) (sym (rows-count base w d h)))
+        (eq-eqb (d .length-is) (length (rows-of w)) (sym (rows-count lim w d h)))
         (eq-eqb (d .level-is) (level-of w) (sym (h .level-is)))
         (le-leb (need n ss) (length w) (omega (arith, needed, h .enough)))
 
-    pub fits-whole : (d : Counters) → fits (book-of w) (length w) d ≡ true → Whole base w d
+    pub fits-whole : (d : Counters) → fits (book-of n ss w) (length w) d ≡ true → Whole lim w d
     fits-whole d e =
         let a = eqb (d .length-is) (length (rows-of w)) in
         let b = eqb (d .level-is) (level-of w) in
         let f = first-passes (a && b) (leb (need n ss) (length w)) e in
-        let i : c .length-is ≡ d .length-is = sym (eqb-true (d .length-is) (length (rows-of w)) (first-passes a b f) ∙ rows-count base w c (s .whole)) in
+        let i : c .length-is ≡ d .length-is = sym (eqb-true (d .length-is) (length (rows-of w)) (first-passes a b f) ∙ rows-count lim w c (s .whole)) in
         let j : c .level-is ≡ d .level-is = sym (eqb-true (d .level-is) (level-of w) (second-passes a b f) ∙ s .whole .level-is) in
-        subst (Whole base w) (ap₂ {A = ℕ} {B = ℕ} {C = Counters} (λ k v. record { length-is = k; level-is = v }) i j) (s .whole)
+        subst (Whole lim w) (ap₂ {A = ℕ} {B = ℕ} {C = Counters} (λ k v. record { length-is = k; level-is = v }) i j) (s .whole)
 
-    pub state-is : (size : ℕ) (d : Counters) → fits (book-of w) size d ≡ true → area-state base w ≡ book-state base (computed ss) (book-of w) size d
+    pub state-is : (size : ℕ) (d : Counters) → fits (book-of n ss w) size d ≡ true → area-state lim w ≡ book-state lim (computed ss) (book-of n ss w) size d
     state-is size d e =
         ap {A = ℕ} (λ k. state false k (theory-of w) w) (s .atoms)
         ∙ ap {A = List Rule} (λ rs. state false n rs w) (s .theory)
@@ -88,10 +89,10 @@ module _ (n : ℕ) (ss : List Sentence) where
 
   -- ---- an area cut at its end: it stands for the book as before, or is not whole
 
-  book-alike : (w w′ : List ℕ) → ReadAlike w w′ → book-of w′ ≡ book-of w
+  book-alike : (w w′ : List ℕ) → ReadAlike w w′ → book-of n ss w′ ≡ book-of n ss w
   book-alike w w′ a = ap₂ {A = ℕ} {B = List Row} {C = Book} (λ v rs. record { atoms = n; sentences = ss; level = v; rows = rs }) (a .level) (a .rows)
 
-  stands-alike : (w w′ : List ℕ) (c : Counters) → Stands w c → Whole base w′ c → ReadAlike w w′ → Stands w′ c
+  stands-alike : (w w′ : List ℕ) (c : Counters) → Stands w c → Whole lim w′ c → ReadAlike w w′ → Stands w′ c
   stands-alike w w′ c s h a = record {
     whole = h;
     atoms = a .atoms ∙ s .atoms;
@@ -101,25 +102,25 @@ module _ (n : ℕ) (ss : List Sentence) where
 
   -- longer by words behind it, or cut not below the need
   pub stands-grown : (part rest : List ℕ) (c : Counters) → Stands part c → Stands (part ++ rest) c
-  stands-grown part rest c s = stands-alike part (part ++ rest) c s (grown-whole base part rest c (s .whole)) (grown-alike base part rest c (s .whole))
+  stands-grown part rest c s = stands-alike part (part ++ rest) c s (grown-whole lim part rest c (s .whole)) (grown-alike lim part rest c (s .whole))
 
-  pub book-grown : (part rest : List ℕ) (c : Counters) → Stands part c → book-of part ≡ book-of (part ++ rest)
-  book-grown part rest c s = sym (book-alike part (part ++ rest) (grown-alike base part rest c (s .whole)))
+  pub book-grown : (part rest : List ℕ) (c : Counters) → Stands part c → book-of n ss part ≡ book-of n ss (part ++ rest)
+  book-grown part rest c s = sym (book-alike part (part ++ rest) (grown-alike lim part rest c (s .whole)))
 
   module _ (part rest : List ℕ) (c : Counters) (s : Stands (part ++ rest) c) (l : need n ss ≤ length part) where
     cut-room : need-of (part ++ rest) ≤ length part
     cut-room = omega (arith, needed (part ++ rest) c s)
 
-    pub book-cut : book-of part ≡ book-of (part ++ rest)
-    book-cut = book-alike (part ++ rest) part (cut-alike base part rest c (s .whole) cut-room)
+    pub book-cut : book-of n ss part ≡ book-of n ss (part ++ rest)
+    book-cut = book-alike (part ++ rest) part (cut-alike lim part rest c (s .whole) cut-room)
 
     pub stands-cut : Stands part c
-    stands-cut = stands-alike (part ++ rest) part c s (cut-whole base part rest c (s .whole) cut-room) (cut-alike base part rest c (s .whole) cut-room)
+    stands-cut = stands-alike (part ++ rest) part c s (cut-whole lim part rest c (s .whole) cut-room) (cut-alike lim part rest c (s .whole) cut-room)
 
   -- cut below the need
-  pub cut-fails : (b : List ℕ) (size : ℕ) (d : Counters) → size < need n ss → fits (book-of b) size d ≡ false
+  pub cut-fails : (b : List ℕ) (size : ℕ) (d : Counters) → size < need n ss → fits (book-of n ss b) size d ≡ false
   cut-fails w size d l =
       last-fails (eqb (d .length-is) (length (rows-of w)) && eqb (d .level-is) (level-of w)) (leb (need n ss) size) (lt-leb (need n ss) size l)
 
-  pub cut-broken : (part rest : List ℕ) (c d : Counters) → Stands (part ++ rest) c → length part < need n ss → ¬ (Whole base part d)
-  cut-broken part rest c d s l h = omega (arith, needed (part ++ rest) c s, need-stays base part d h rest, h .enough)
+  pub cut-broken : (part rest : List ℕ) (c d : Counters) → Stands (part ++ rest) c → length part < need n ss → ¬ (Whole lim part d)
+  cut-broken part rest c d s l h = omega (arith, needed (part ++ rest) c s, need-stays lim part d h rest, h .enough)

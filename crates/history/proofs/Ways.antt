@@ -6,7 +6,7 @@ use mathlib.Core.List.{List}
 use Prim.Native.Nat.{ℕ}
 use lib.ListN.{length}
 use lib.Dec.{T, eqb}
-use Rattle.types.specs.Limits.{base}
+use Rattle.types.specs.declared.Limits.{Limits}
 use Rattle.types.specs.declared.Counters as t
 use Rattle.book.specs.Rows.{up-to}
 use Rattle.book.specs.Table.{Step, Call, step, report, between, listed, Answer, refused, done, still, clash, searched, reported, Paper, paper, list-after, State, unchanged, reply}
@@ -19,7 +19,7 @@ use Rattle.history.specs.History.{Event, held, Called, acts, reports}
 use Rattle.history.proofs.Replies.{lists-nothing, reports-nothing, reply-kept}
 
 -- what the book is fed
-pub asked-is : {w w′ : List ℕ} {c d c′ : t.Counters} {e : Event} → Called w c d w′ e c′
+pub asked-is : {lim : Limits} {w w′ : List ℕ} {c d c′ : t.Counters} {e : Event} → Called lim w c d w′ e c′
     → e .asked ≡ record { call = e .asked .call; size = length w; counters = counted d }
 asked-is (acts x p c′ a) = refl
 asked-is (reports x p old new a) = refl
@@ -47,7 +47,7 @@ pub record Untouched (w : List ℕ) (c : t.Counters) (w′ : List ℕ) (e : Even
   pub numbers : e .numbers ≡ paper (refused 9 0)
   pub list : e .new ≡ e .old
 
-pub called-broken : {w w′ : List ℕ} {c d c′ : t.Counters} {e : Event} → ¬ (Whole base w (counted d)) → Called w c d w′ e c′ → Untouched w c w′ e c′
+pub called-broken : {lim : Limits} {w w′ : List ℕ} {c d c′ : t.Counters} {e : Event} → ¬ (Whole lim w (counted d)) → Called lim w c d w′ e c′ → Untouched w c w′ e c′
 called-broken {c = c} b (acts x p c′ a) =
     let e = a .answer .broken b in
     record { area = a .broken b .0; counters = ap {A = Paper} (λ y. held y c c′) e ∙ held-broken c c′; numbers = e; list = refl }
@@ -55,39 +55,39 @@ called-broken b (reports x p old new a) = record { area = refl; counters = refl;
 
 -- ---- whole with the counters that the call got, and with those that the caller held
 
-pub record Replied (w w′ : List ℕ) (e : Event) (c′ : t.Counters) : Type 0 where
-  pub numbers : e .numbers ≡ paper (reply (area-state base w) (e .asked .call) .answer)
-  pub list : e .new ≡ list-after (reply (area-state base w) (e .asked .call) .answer) (e .old)
-  pub moved : Moved base w w′ (counted c′) (reply (area-state base w) (e .asked .call))
+pub record Replied (lim : Limits) (w w′ : List ℕ) (e : Event) (c′ : t.Counters) : Type 0 where
+  pub numbers : e .numbers ≡ paper (reply (area-state lim w) (e .asked .call) .answer)
+  pub list : e .new ≡ list-after (reply (area-state lim w) (e .asked .call) .answer) (e .old)
+  pub moved : Moved lim w w′ (counted c′) (reply (area-state lim w) (e .asked .call))
 
-module _ (w : List ℕ) (c d : t.Counters) (h : Whole base w (counted c)) (g : Whole base w (counted d)) (all : up-to (level-of w) (rows-of w) ≡ rows-of w) where
+module _ (lim : Limits) (w : List ℕ) (c d : t.Counters) (h : Whole lim w (counted c)) (g : Whole lim w (counted d)) (all : up-to (level-of w) (rows-of w) ≡ rows-of w) where
   abbrev q : State
-  q = area-state base w
+  q = area-state lim w
 
-  stayed : (x : Call) (k : Counters) → Whole base w k → reply q x ≡ unchanged q (reply q x .answer) → Moved base w w k (reply q x)
-  stayed x k v e = subst (Moved base w w k) (sym e) (stays base w k v (reply q x .answer))
+  stayed : (x : Call) (k : Counters) → Whole lim w k → reply q x ≡ unchanged q (reply q x .answer) → Moved lim w w k (reply q x)
+  stayed x k v e = subst (Moved lim w w k) (sym e) (stays lim w k v (reply q x .answer))
 
   -- kept, the area is whole with whichever counters are held
-  held-whole : (p : Paper) (c′ : t.Counters) → counted c′ ≡ counted d → Whole base w (counted (held p c c′))
+  held-whole : (p : Paper) (c′ : t.Counters) → counted c′ ≡ counted d → Whole lim w (counted (held p c c′))
   held-whole p c′ e = go (eqb (p .code) 0)
     where
-      go : (b : Bool) → Whole base w (counted (cond b c′ c))
-      go true = subst (Whole base w) (sym e) g
+      go : (b : Bool) → Whole lim w (counted (cond b c′ c))
+      go true = subst (Whole lim w) (sym e) g
       go false = h
 
-  acts-moves : (w′ : List ℕ) (x : Step) (p : Paper) (c′ : t.Counters) → Acts base w w′ (counted d) (counted c′) x p
-      → Moved base w w′ (counted (held p c c′)) (reply q (step x))
+  acts-moves : (w′ : List ℕ) (x : Step) (p : Paper) (c′ : t.Counters) → Acts lim w w′ (counted d) (counted c′) x p
+      → Moved lim w w′ (counted (held p c c′)) (reply q (step x))
   acts-moves w′ x p c′ a = go (keeps q x) (λ t. t) (λ t. t)
     where
-      go : (b : Bool) → (T b → T (keeps q x)) → (T (not b) → T (not (keeps q x))) → Moved base w w′ (counted (held p c c′)) (reply q (step x))
+      go : (b : Bool) → (T b → T (keeps q x)) → (T (not b) → T (not (keeps q x))) → Moved lim w w′ (counted (held p c c′)) (reply q (step x))
       go true kept moves =
           let k = a .kept g (kept tt) in
-          subst (λ v. Moved base w v (counted (held p c c′)) (reply q (step x))) (sym (k .0)) (stayed (step x) (counted (held p c c′)) (held-whole p c′ (k .1)) (reply-kept q all x (kept tt)))
+          subst (λ v. Moved lim w v (counted (held p c c′)) (reply q (step x))) (sym (k .0)) (stayed (step x) (counted (held p c c′)) (held-whole p c′ (k .1)) (reply-kept q all x (kept tt)))
       go false kept moves =
           let e : held p c c′ ≡ c′ = ap {A = Paper} (λ y. held y c c′) (a .answer .told g) ∙ held-moved c c′ (reply q (step x) .answer) (idle q x) (moves tt) in
-          subst (λ k. Moved base w w′ (counted k) (reply q (step x))) (sym e) (a .moved g (moves tt))
+          subst (λ k. Moved lim w w′ (counted k) (reply q (step x))) (sym e) (a .moved g (moves tt))
 
-  pub called-whole : {w′ : List ℕ} {c′ : t.Counters} {e : Event} → Called w c d w′ e c′ → Replied w w′ e c′
+  pub called-whole : {w′ : List ℕ} {c′ : t.Counters} {e : Event} → Called lim w c d w′ e c′ → Replied lim w w′ e c′
   called-whole (acts {w′ = w′} x p c′ a) = record { numbers = a .answer .told g; list = sym (lists-nothing q x); moved = acts-moves w′ x p c′ a }
   called-whole (reports x p old new a) = record {
     numbers = a .answer .told g;

@@ -6,7 +6,7 @@ use Prim.Native.Nat.{ℕ, suc, _<_}
 use lib.ListN.{length, take, drop}
 use lib.IntN.{ℤ}
 use lib.Dec.{eqb}
-use Rattle.types.specs.Limits.{base}
+use Rattle.types.specs.declared.Limits.{Limits}
 use Rattle.types.specs.declared.Counters as t
 use Rattle.numbers.specs.Words.{unword}
 use Rattle.meaning.specs.Meaning.{Sentence}
@@ -41,19 +41,19 @@ held p c c′ = cond (eqb (p .code) 0) c′ c
 
 -- a call on the words w with the counters d keeps its public contract: the words afterwards, the event, and the counters that its caller
 -- then holds, who held c. proofs/Public.antt says of each public contract that it is such a call
-pub data Called (w : List ℕ) (c d : t.Counters) : List ℕ → Event → t.Counters → Type 0 where
-  acts : {w′ : List ℕ} (x : Step) (p : Paper) (c′ : t.Counters) → Acts base w w′ (counted d) (counted c′) x p
-      → Called w c d w′ (event (step x) w d p [] []) (held p c c′)
-  reports : (x : Report) (p : Paper) (old new : List ℤ) → Reports base w (counted d) x old new p
-      → Called w c d w (event (report x (length old)) w d p old new) c
+pub data Called (lim : Limits) (w : List ℕ) (c d : t.Counters) : List ℕ → Event → t.Counters → Type 0 where
+  acts : {w′ : List ℕ} (x : Step) (p : Paper) (c′ : t.Counters) → Acts lim w w′ (counted d) (counted c′) x p
+      → Called lim w c d w′ (event (step x) w d p [] []) (held p c c′)
+  reports : (x : Report) (p : Paper) (old new : List ℤ) → Reports lim w (counted d) x old new p
+      → Called lim w c d w (event (report x (length old)) w d p old new) c
 
 -- ---- a list of calls, from the words and counters before it to those after it
 
-pub data Calls : List ℕ → t.Counters → List Event → List ℕ → t.Counters → Type 0 where
-  none : {w : List ℕ} {c : t.Counters} → Calls w c [] w c
+pub data Calls (lim : Limits) : List ℕ → t.Counters → List Event → List ℕ → t.Counters → Type 0 where
+  none : {w : List ℕ} {c : t.Counters} → Calls lim w c [] w c
   -- the next call gets any counters, and the words that are there or any first part of them; the rest of them stays as it is
   next : {w w₁ w₂ : List ℕ} {c d c₁ c₂ : t.Counters} {e : Event} {es : List Event} (part part₁ rest : List ℕ)
-      → w ≡ part ++ rest → Called part c d part₁ e c₁ → w₁ ≡ part₁ ++ rest → Calls w₁ c₁ es w₂ c₂ → Calls w c (e ∷ es) w₂ c₂
+      → w ≡ part ++ rest → Called lim part c d part₁ e c₁ → w₁ ≡ part₁ ++ rest → Calls lim w₁ c₁ es w₂ c₂ → Calls lim w c (e ∷ es) w₂ c₂
 
 -- ---- the claim
 
@@ -69,36 +69,36 @@ HandedBack (e ∷ es) [] = ⊥
 HandedBack (e ∷ es) (a ∷ rest) = (e .numbers ≡ paper a) × (e .new ≡ list-after a (e .old)) × HandedBack es rest
 
 -- `loaded` are the words that load left, `w` and `c` the words and counters after the calls
-pub record Claim (n : ℕ) (ss : List Sentence) (loaded : List ℕ) (es : List Event) (w : List ℕ) (c : t.Counters) : Type 0 where
+pub record Claim (lim : Limits) (n : ℕ) (ss : List Sentence) (loaded : List ℕ) (es : List Event) (w : List ℕ) (c : t.Counters) : Type 0 where
   -- the book's answers, whoever judges by full assignments; and such a judgement exists
-  pub answers-are : (js : List Judged) → JudgesAll ss js → HandedBack es (answers base js (fresh n ss) (asked-in es))
+  pub answers-are : (js : List Judged) → JudgesAll ss js → HandedBack es (answers lim js (fresh n ss) (asked-in es))
   pub judged : JudgesAll ss (judged-all (rules-of ss))
   -- the area, and its trail
-  pub whole : Whole base w (counted c)
+  pub whole : Whole lim w (counted c)
   pub atoms : atoms-of w ≡ n
   pub theory : theory-of w ≡ rules-of ss
   pub size : length w ≡ length loaded
   pub past-need : drop (need n ss) w ≡ drop (need n ss) loaded
-  pub rows : (js : List Judged) → JudgesAll ss js → rows-of w ≡ played base js (fresh n ss) (asked-in es) .rows
-  pub level : (js : List Judged) → JudgesAll ss js → level-of w ≡ played base js (fresh n ss) (asked-in es) .level
+  pub rows : (js : List Judged) → JudgesAll ss js → rows-of w ≡ played lim js (fresh n ss) (asked-in es) .rows
+  pub level : (js : List Judged) → JudgesAll ss js → level-of w ≡ played lim js (fresh n ss) (asked-in es) .level
   pub counters : counted c ≡ record { length-is = length (rows-of w); level-is = level-of w }
   -- the stored bounds of every sentence
   pub bounds-are : (s : ℕ) → s < length ss → Bounded ss (trail (rows-of w)) (suc s) (unword (least-at w (record-at n s))) (unword (greatest-at w (record-at n s)))
   -- every explanation that is not refused
-  pub explained : (l : ℤ) (old new : List ℤ) (r : Listed) → ListsExplanation w c l old new r → r .code ≡ 0 → Explains ss (rows-of w) l (take (r .value) new)
-  pub conflict-explained : (k : ℕ) (old new : List ℤ) (r : Listed) → ListsConflict w c k old new r → r .code ≡ 0
+  pub explained : (l : ℤ) (old new : List ℤ) (r : Listed) → ListsExplanation lim w c l old new r → r .code ≡ 0 → Explains ss (rows-of w) l (take (r .value) new)
+  pub conflict-explained : (k : ℕ) (old new : List ℤ) (r : Listed) → ListsConflict lim w c k old new r → r .code ≡ 0
       → ExplainsConflict ss (rows-of w) k (take (r .value) new)
   -- every origin report has an answer, and one that is not refused names origins
-  pub origin-answered : (l : ℤ) (old : List ℤ) → (new : List ℤ) × (r : Listed) × ListsOrigin w c l old new r
-  pub originated : (l : ℤ) (old new : List ℤ) (r : Listed) → ListsOrigin w c l old new r → r .code ≡ 0 → OriginList ss (rows-of w) l (take (r .value) new)
+  pub origin-answered : (l : ℤ) (old : List ℤ) → (new : List ℤ) × (r : Listed) × ListsOrigin lim w c l old new r
+  pub originated : (l : ℤ) (old new : List ℤ) (r : Listed) → ListsOrigin lim w c l old new r → r .code ≡ 0 → OriginList ss (rows-of w) l (take (r .value) new)
 
 -- the counters after a load
 abbrev pub start : t.Counters
 start = record { length = 0; level = record { 0 = 0 } }
 
--- every list of calls after an accepted load, which hands on the words w
-abbrev pub History : Type 0
-History =
-    (w₀ w : List ℕ) (n : ℕ) (columns : Columns) (r : c.Answer) → Loads base w₀ w n columns r → r .code ≡ 0
-    → (es : List Event) (w′ : List ℕ) (c : t.Counters) → Calls w start es w′ c
-    → Claim n (sentences-in (all-written columns)) w es w′ c
+-- every list of calls after an accepted load, which hands on the words w; the limits are any
+abbrev pub History : Limits → Type 0
+History lim =
+    (w₀ w : List ℕ) (n : ℕ) (columns : Columns) (r : c.Answer) → Loads lim w₀ w n columns r → r .code ≡ 0
+    → (es : List Event) (w′ : List ℕ) (c : t.Counters) → Calls lim w start es w′ c
+    → Claim lim n (sentences-in (all-written columns)) w es w′ c

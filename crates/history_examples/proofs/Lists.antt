@@ -41,7 +41,7 @@ module _ (front : List ℕ) (k : ℕ) (e : length front ≡ k) where
 
 -- ---- M11
 
-m11-calls : Calls m11-loaded (counters-at 0 0) (events m11-turns) m11-again (counters-at 3 0)
+m11-calls : Calls base m11-loaded (counters-at 0 0) (events m11-turns) m11-again (counters-at 3 0)
 unfolding rows-from value-word entries-of rules-from entries-before unbias literal-of gather standing extreme first-due says up-to pick causes row-of numbered any comes-from in-order flat speech run reply paired written-from sentences-in sum-first
 m11-calls =
     then m11-one (acts _ _ (counters-at 1 0) (moving tt refl tt tt refl))
@@ -87,7 +87,7 @@ module _ (front : List ℕ) (e : length front ≡ 24) where
 
 -- ---- M12
 
-m12-calls : Calls m12-loaded (counters-at 0 0) (events m12-turns) m12-derived (counters-at 2 0)
+m12-calls : Calls base m12-loaded (counters-at 0 0) (events m12-turns) m12-derived (counters-at 2 0)
 unfolding rows-from value-word entries-of rules-from entries-before unbias literal-of gather standing extreme first-due says pick causes row-of numbered any comes-from in-order flat speech run reply paired written-from sentences-in sum-first
 m12-calls =
     then-cut 28 m12-given refl (acts _ _ (counters-at 1 0) (moving tt refl tt tt refl))

@@ -77,11 +77,11 @@ module _ {w : List ℕ} {c : Counters} {x : Report} {p : Paper} {old : List ℤ}
 
 module _ {w w₂ : List ℕ} {c c₁ c₂ : t.Counters} {e : Event} {es : List Event} {len level : ℕ} where
   -- a call on all words, which leaves w₁
-  pub then : (w₁ : List ℕ) → Called w c (counters-at len level) w₁ e c₁ → Calls w₁ c₁ es w₂ c₂ → Calls w c (e ∷ es) w₂ c₂
+  pub then : (w₁ : List ℕ) → Called base w c (counters-at len level) w₁ e c₁ → Calls base w₁ c₁ es w₂ c₂ → Calls base w c (e ∷ es) w₂ c₂
   then w₁ s later = next w w₁ [] (sym (append-nil w)) s (sym (append-nil w₁)) later
 
   -- a call on the first k words, which leaves those of w₁; the others are as they were
-  pub then-cut : (k : ℕ) (w₁ : List ℕ) → drop k w₁ ≡ drop k w → Called (take k w) c (counters-at len level) (take k w₁) e c₁ → Calls w₁ c₁ es w₂ c₂
-      → Calls w c (e ∷ es) w₂ c₂
+  pub then-cut : (k : ℕ) (w₁ : List ℕ) → drop k w₁ ≡ drop k w → Called base (take k w) c (counters-at len level) (take k w₁) e c₁ → Calls base w₁ c₁ es w₂ c₂
+      → Calls base w c (e ∷ es) w₂ c₂
   then-cut k w₁ same s later =
       next (take k w) (take k w₁) (drop k w) (sym (take-append-drop k w)) s (sym (take-append-drop k w₁) ∙ ap (λ v. take k w₁ ++ v) same) later

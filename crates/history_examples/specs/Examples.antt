@@ -28,7 +28,7 @@ load-done = record { code = 0; sentence = record { 0 = 0 } }
 pub record FromLoad (w₀ w : List ℕ) (n : ℕ) (cs : Columns) (ss : List Sentence) (es : List Event) (w′ : List ℕ) (c : Counters) : Type 0 where
   pub loads : Loads base w₀ w n cs load-done
   pub sentences : sentences-in (all-written cs) ≡ ss
-  pub calls : Calls w (counters-at 0 0) es w′ c
+  pub calls : Calls base w (counters-at 0 0) es w′ c
 
 -- ---- a call: the words that it gets, and what it is asked and hands back
 
