@@ -197,7 +197,7 @@ struct SearchTold {
 
 // The search loop's answer, with its counters beside it.
 fn search_told(area: &mut [u64], counters: Counters, literals: &[i64]) -> SearchTold
-    ensures { λ r. ⌜ SearchesFor (now (area .entry)) (now (area .exit)) counters (now (literals .entry)) (searched (r .outcome) (r .counters)) ⌝ }
+    ensures { λ r. ⌜ SearchesFor base (now (area .entry)) (now (area .exit)) counters (now (literals .entry)) (searched (r .outcome) (r .counters)) ⌝ }
 {
     let answer = dalelead::search(area, counters, literals);
     let sentence = answer.sentence;
@@ -216,7 +216,7 @@ fn search_told(area: &mut [u64], counters: Counters, literals: &[i64]) -> Search
 
 // Give, open and take back by value, which the entries below move into the lent counters.
 fn give_told(area: &mut [u64], counters: Counters, literal: i64) -> Done
-    ensures { λ r. ⌜ Gives (now (area .entry)) (now (area .exit)) counters literal r ⌝ }
+    ensures { λ r. ⌜ Gives base (now (area .entry)) (now (area .exit)) counters literal r ⌝ }
 {
     let answer = dalelead::give(area, counters, literal);
     let next = answer.counters;
@@ -227,20 +227,20 @@ fn give_told(area: &mut [u64], counters: Counters, literal: i64) -> Done
 }
 
 fn open_told(area: &mut [u64], counters: Counters) -> Done
-    ensures { λ r. ⌜ Opens (now (area .entry)) (now (area .exit)) counters r ⌝ }
+    ensures { λ r. ⌜ Opens base (now (area .entry)) (now (area .exit)) counters r ⌝ }
 {
     dalelead::open_level(area, counters)
 }
 
 fn take_back_told(area: &mut [u64], counters: Counters, level: Level) -> Done
-    ensures { λ r. ⌜ TakesBack (now (area .entry)) (now (area .exit)) counters (level .0) r ⌝ }
+    ensures { λ r. ⌜ TakesBack base (now (area .entry)) (now (area .exit)) counters (level .0) r ⌝ }
 {
     dalelead::take_back(area, counters, level)
 }
 
 // Give, with the counters in the caller's hands: 0 or the refusal.
 pub fn give_in(area: &mut [u64], counters: &mut Counters, literal: i64) -> u64
-    ensures { λ r. ⌜ Gives (now (area .entry)) (now (area .exit)) (now (counters .entry)) literal (done r (now (counters .exit))) ⌝ }
+    ensures { λ r. ⌜ Gives base (now (area .entry)) (now (area .exit)) (now (counters .entry)) literal (done r (now (counters .exit))) ⌝ }
 {
     let answer = give_told(area, *counters, literal);
     *counters = answer.counters;
@@ -249,7 +249,7 @@ pub fn give_in(area: &mut [u64], counters: &mut Counters, literal: i64) -> u64
 
 // Open, likewise.
 pub fn open_in(area: &mut [u64], counters: &mut Counters) -> u64
-    ensures { λ r. ⌜ Opens (now (area .entry)) (now (area .exit)) (now (counters .entry)) (done r (now (counters .exit))) ⌝ }
+    ensures { λ r. ⌜ Opens base (now (area .entry)) (now (area .exit)) (now (counters .entry)) (done r (now (counters .exit))) ⌝ }
 {
     let answer = open_told(area, *counters);
     *counters = answer.counters;
@@ -258,7 +258,7 @@ pub fn open_in(area: &mut [u64], counters: &mut Counters) -> u64
 
 // Take back to a level, likewise.
 pub fn take_back_in(area: &mut [u64], counters: &mut Counters, level: Level) -> u64
-    ensures { λ r. ⌜ TakesBack (now (area .entry)) (now (area .exit)) (now (counters .entry)) (level .0) (done r (now (counters .exit))) ⌝ }
+    ensures { λ r. ⌜ TakesBack base (now (area .entry)) (now (area .exit)) (now (counters .entry)) (level .0) (done r (now (counters .exit))) ⌝ }
 {
     let answer = take_back_told(area, *counters, level);
     *counters = answer.counters;
@@ -276,7 +276,7 @@ pub fn propagate_in(area: &mut [u64], counters: &mut Counters) -> Outcome
 
 // The search loop, with the counters in the caller's hands.
 pub fn search_in(area: &mut [u64], counters: &mut Counters, literals: &[i64]) -> SearchOutcome
-    ensures { λ r. ⌜ SearchesFor (now (area .entry)) (now (area .exit)) (now (counters .entry)) (now (literals .entry)) (searched r (now (counters .exit))) ⌝ }
+    ensures { λ r. ⌜ SearchesFor base (now (area .entry)) (now (area .exit)) (now (counters .entry)) (now (literals .entry)) (searched r (now (counters .exit))) ⌝ }
 {
     let answer = search_told(area, *counters, literals);
     *counters = answer.counters;

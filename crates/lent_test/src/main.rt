@@ -32,7 +32,7 @@ fn load_two(
 
 // Counters by value, lent to give.
 fn give_held(area: &mut [u64], counters: Counters, literal: i64) -> calls::Done
-    ensures { λ r. ⌜ Gives (now (area .entry)) (now (area .exit)) counters literal r ⌝ }
+    ensures { λ r. ⌜ Gives base (now (area .entry)) (now (area .exit)) counters literal r ⌝ }
 {
     let mut held = counters;
     let code = lent::give_in(area, &mut held, literal);
@@ -68,7 +68,7 @@ struct SearchHeld {
 
 // And to the search loop.
 fn search_held(area: &mut [u64], counters: Counters, literals: &[i64]) -> SearchHeld
-    ensures { λ r. ⌜ SearchesFor (now (area .entry)) (now (area .exit)) counters (now (literals .entry)) (searched (r .outcome) (r .counters)) ⌝ }
+    ensures { λ r. ⌜ SearchesFor base (now (area .entry)) (now (area .exit)) counters (now (literals .entry)) (searched (r .outcome) (r .counters)) ⌝ }
 {
     let mut held = counters;
     let outcome = lent::search_in(area, &mut held, literals);

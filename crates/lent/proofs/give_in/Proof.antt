@@ -9,6 +9,7 @@ use denote.Signed.{sint-tells, sint-lawful}
 use denote.Struct.Laws.{i64-copy}
 use denote.Triple.Spec.{tripleOf}
 use denote.Triple.Table.{entered, cited}
+use Rattle.types.specs.Limits.{base as base-limits}
 use Rattle.dalelead.specs.Public.{Gives}
 use Rattle.lent.proofs.Lending.{Extra, done-answer, lent-vals, holds, lends}
 use Rattle.lent.proofs.give_told as told
@@ -38,5 +39,5 @@ give-in-spec 𝓤 H 𝓜 𝓖 𝓡 =
     entered 𝓤 H (tripleOf 𝓤 H (𝓖 .A) give-in.signature (give-in.spec 𝓤 H (𝓖 .A) (𝓜 .mem) (𝓡 .run)))
     (tables 𝓤 H 𝓜 𝓡 code.env .C) (tables 𝓤 H 𝓜 𝓡 code.env .Λ) #lent·give-in code.function (code.unfolded 𝓤 H 𝓜 𝓡)
     (lends 0 (λ _. i64) literal done-answer told-def.name 𝓤 H (𝓖 .A) (givenOf 𝓤 H 𝓜 𝓖) (give-in.clauses 𝓤 H (𝓖 .A) (𝓜 .mem) (𝓡 .run))
-    (tablesOf 𝓤 H 𝓜 (tables 𝓤 H 𝓜 𝓡 code.env)) (λ _ w h x w′ r. Gives w w′ h x r) (λ κs a g zs r e. holds 𝓤 e)
+    (tablesOf 𝓤 H 𝓜 (tables 𝓤 H 𝓜 𝓡 code.env)) (λ _ w h x w′ r. Gives base-limits w w′ h x r) (λ κs a g zs r e. holds 𝓤 e)
     (λ κs qs area h x. known (((κs .0, κs .1 .1), (qs .0, qs .1 .1), tt, (area, (h, (x, tt))), lent-vals area h (vint w64 (ofZ w64 x) ∷ [], tt)), tt)))

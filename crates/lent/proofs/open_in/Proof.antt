@@ -2,6 +2,7 @@
 use contract.Running.{givenOf, tables, tablesOf}
 use denote.Triple.Spec.{tripleOf}
 use denote.Triple.Table.{entered, cited}
+use Rattle.types.specs.Limits.{base as base-limits}
 use Rattle.dalelead.specs.Public.{Opens}
 use Rattle.lent.proofs.Lending.{done-answer, lent-vals, holds, lends-bare}
 use Rattle.lent.proofs.open_told as told
@@ -20,5 +21,5 @@ open-in-spec 𝓤 H 𝓜 𝓖 𝓡 =
     entered 𝓤 H (tripleOf 𝓤 H (𝓖 .A) open-in.signature (open-in.spec 𝓤 H (𝓖 .A) (𝓜 .mem) (𝓡 .run)))
     (tables 𝓤 H 𝓜 𝓡 code.env .C) (tables 𝓤 H 𝓜 𝓡 code.env .Λ) #lent·open-in code.function (code.unfolded 𝓤 H 𝓜 𝓡)
     (lends-bare done-answer told-def.name 𝓤 H (𝓖 .A) (givenOf 𝓤 H 𝓜 𝓖) (open-in.clauses 𝓤 H (𝓖 .A) (𝓜 .mem) (𝓡 .run))
-    (tablesOf 𝓤 H 𝓜 (tables 𝓤 H 𝓜 𝓡 code.env)) (λ w h w′ r. Opens w w′ h r) (λ κs a g zs r e. holds 𝓤 e)
+    (tablesOf 𝓤 H 𝓜 (tables 𝓤 H 𝓜 𝓡 code.env)) (λ w h w′ r. Opens base-limits w w′ h r) (λ κs a g zs r e. holds 𝓤 e)
     (λ κs qs area h. known (((κs .0, κs .1 .1), (qs .0, qs .1 .1), tt, (area, (h, tt)), lent-vals area h tt), tt)))

@@ -10,6 +10,7 @@ use denote.Steps.{only}
 use denote.Struct.Laws as LL
 use denote.Triple.Spec.{tripleOf}
 use denote.Triple.Table.{entered, cited}
+use Rattle.types.specs.Limits.{base as base-limits}
 use Rattle.dalelead.specs.Public.{SearchesFor}
 use Rattle.lent.specs.Lent.{searched}
 use Rattle.lent.proofs.SearchTold as S
@@ -62,5 +63,5 @@ search-in-spec 𝓤 H 𝓜 𝓖 𝓡 =
     entered 𝓤 H (tripleOf 𝓤 H (𝓖 .A) search-in.signature (search-in.spec 𝓤 H (𝓖 .A) (𝓜 .mem) (𝓡 .run)))
     (tables 𝓤 H 𝓜 𝓡 code.env .C) (tables 𝓤 H 𝓜 𝓡 code.env .Λ) #lent·search-in code.function (code.unfolded 𝓤 H 𝓜 𝓡)
     (lends 1 (λ κs. ShrSlice (named 2) (κs .1 .1 .0) i64) literals answer told-def.name 𝓤 H (𝓖 .A) (givenOf 𝓤 H 𝓜 𝓖) (search-in.clauses 𝓤 H (𝓖 .A) (𝓜 .mem) (𝓡 .run))
-    (tablesOf 𝓤 H 𝓜 (tables 𝓤 H 𝓜 𝓡 code.env)) (λ _ w h x w′ r. SearchesFor w w′ h (x .now) (searched (r .outcome) (r .counters))) (λ κs a g zs r e. holds 𝓤 e)
+    (tablesOf 𝓤 H 𝓜 (tables 𝓤 H 𝓜 𝓡 code.env)) (λ _ w h x w′ r. SearchesFor base-limits w w′ h (x .now) (searched (r .outcome) (r .counters))) (λ κs a g zs r e. holds 𝓤 e)
     (λ κs qs area h x. known (((κs .0, κs .1 .1), (qs .0, qs .1 .1), tt, (area, (h, (x, tt))), lent-vals area h (sliceVal (x .ptr) (length (x .now)) ∷ [], tt)), tt)))

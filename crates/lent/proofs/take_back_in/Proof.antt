@@ -5,6 +5,7 @@ use contract.Running.{givenOf, tables, tablesOf}
 use denote.Struct.Laws as LL
 use denote.Triple.Spec.{tripleOf}
 use denote.Triple.Table.{entered, cited}
+use Rattle.types.specs.Limits.{base as base-limits}
 use Rattle.dalelead.specs.Public.{TakesBack}
 use Rattle.types.proofs.Level as P
 use Rattle.types.proofs.Level.Laws as P′
@@ -36,5 +37,5 @@ take-back-in-spec 𝓤 H 𝓜 𝓖 𝓡 =
     entered 𝓤 H (tripleOf 𝓤 H (𝓖 .A) take-back-in.signature (take-back-in.spec 𝓤 H (𝓖 .A) (𝓜 .mem) (𝓡 .run)))
     (tables 𝓤 H 𝓜 𝓡 code.env .C) (tables 𝓤 H 𝓜 𝓡 code.env .Λ) #lent·take-back-in code.function (code.unfolded 𝓤 H 𝓜 𝓡)
     (lends 0 (λ _. P.the-row) level done-answer told-def.name 𝓤 H (𝓖 .A) (givenOf 𝓤 H 𝓜 𝓖) (take-back-in.clauses 𝓤 H (𝓖 .A) (𝓜 .mem) (𝓡 .run))
-    (tablesOf 𝓤 H 𝓜 (tables 𝓤 H 𝓜 𝓡 code.env)) (λ _ w h x w′ r. TakesBack w w′ h (x .0) r) (λ κs a g zs r e. holds 𝓤 e)
+    (tablesOf 𝓤 H 𝓜 (tables 𝓤 H 𝓜 𝓡 code.env)) (λ _ w h x w′ r. TakesBack base-limits w w′ h (x .0) r) (λ κs a g zs r e. holds 𝓤 e)
     (λ κs qs area h x. known (((κs .0, κs .1 .1), (qs .0, qs .1 .1), tt, (area, (h, (x, tt))), lent-vals area h (P′.lowered x ∷ [], tt)), tt)))

@@ -44,6 +44,7 @@ use denote.Triple.Spec.{Meets, tripleOf}
 use denote.Triple.Table.{entered, cited}
 use denote.Triple.Walked.{says, Stays, stay-none, gave-slice, walkOf, AllGo, goes-none, goes-gave-slice, Walks, ends-at, walked, walk-meets}
 use denote.Exit.{yes}
+use Rattle.types.specs.Limits.{base as base-limits}
 use Rattle.dalelead.specs.Public.{Gives}
 use Rattle.types.specs.declared.Counters.{Counters}
 use Rattle.calls.specs.declared.Done.{Done}
@@ -118,7 +119,7 @@ module _ {M : Type 1} (𝓤 : URA M) (H : Heap 𝓤) (A : Atoms 𝓤) (W : Given
 
   -- what the callee ensures
   abbrev Said : ℕ → List ℕ → Counters → Type 0
-  Said r zs f = Gives (x .now) zs h literal (both r f)
+  Said r zs f = Gives base-limits (x .now) zs h literal (both r f)
 
   made : (r : ℕ) (f : Counters) → r < 2 ^ 64 → Is T.the-row f (vals f) → Is S.the-row (both r f) (LL.vals S.the-type S′.the-laws (both r f))
   made r f gr g = LL.owes S.the-type S′.the-laws (both r f) ((refl, gr), (g, tt))

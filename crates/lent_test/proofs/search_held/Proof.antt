@@ -42,6 +42,7 @@ use denote.Triple.Spec.{Meets, tripleOf}
 use denote.Triple.Table.{entered, cited}
 use denote.Triple.Walked.{says, Stays, stay-none, stay-none-slice, gave-slice, walkOf, AllGo, goes-none, goes-none-slice, goes-gave-slice, Walks, ends-at, walked, walk-meets}
 use denote.Exit.{yes}
+use Rattle.types.specs.Limits.{base as base-limits}
 use Rattle.dalelead.specs.Public.{SearchesFor}
 use Rattle.lent.specs.Lent.{searched}
 use Rattle.types.specs.declared.Counters.{Counters}
@@ -125,7 +126,7 @@ module _ {M : Type 1} (𝓤 : URA M) (H : Heap 𝓤) (A : Atoms 𝓤) (W : Given
 
   -- what the callee ensures
   abbrev Said : SearchOutcome → List ℕ → Counters → Type 0
-  Said r zs f = SearchesFor (x .now) zs h (literals .now) (searched r f)
+  Said r zs f = SearchesFor base-limits (x .now) zs h (literals .now) (searched r f)
 
   made : (r : SearchOutcome) (f : Counters) → Is R.the-row r (LL.vals R.the-type R′.the-laws r) → Is T.the-row f (vals f)
       → Is S.the-row (both r f) (LL.vals S.the-type S′.the-laws (both r f))
