@@ -7,7 +7,7 @@ use lib.IntN.{pos, negsuc}
 use Rattle.numbers.specs.Extended.{below, at, above}
 use Rattle.numbers.specs.Text.{bytes, decimal-within}
 use Rattle.meaning.specs.Meaning.{Each}
-use Rattle.book.specs.Table.{refused, done, still, clash, between, listed, paper}
+use Rattle.book.specs.Table.{refused, done, still, clash, between, listed, reported, paper}
 use Rattle.answer_lines.specs.Lines.{done-line, stop-line, bounds-line, numbers, list-line, row-lines, trail-lines}
 
 pub record Printing : Type 0 where
@@ -24,15 +24,15 @@ printings =
     ∷ printing (stop-line (paper (still 12))) "still 12\n"
     ∷ printing (stop-line (paper (clash 256 1024))) "conflict 1024 256\n"
     ∷ printing (stop-line (paper (refused 9 0))) "refused 9 0\n"
-    ∷ printing (bounds-line (paper (between (at (negsuc 4)) (at (pos 1000000000000))))) "bounds -5 1000000000000\n"
-    ∷ printing (bounds-line (paper (between below above))) "bounds -inf inf\n"
-    ∷ printing (bounds-line (paper (between above above))) "bounds inf inf\n"
+    ∷ printing (bounds-line (paper (reported (between (at (negsuc 4)) (at (pos 1000000000000)))))) "bounds -5 1000000000000\n"
+    ∷ printing (bounds-line (paper (reported (between below above)))) "bounds -inf inf\n"
+    ∷ printing (bounds-line (paper (reported (between above above)))) "bounds inf inf\n"
     ∷ printing (bounds-line (paper (refused 16 0))) "refused 16 0\n"
-    ∷ printing (list-line (bytes "why") (paper (listed (negsuc 1 ∷ negsuc 2 ∷ []))) (negsuc 1 ∷ negsuc 2 ∷ pos 7 ∷ [])) "why -2 -3\n"
-    ∷ printing (list-line (bytes "origin") (paper (listed [])) (pos 7 ∷ [])) "origin\n"
+    ∷ printing (list-line (bytes "why") (paper (reported (listed (negsuc 1 ∷ negsuc 2 ∷ [])))) (negsuc 1 ∷ negsuc 2 ∷ pos 7 ∷ [])) "why -2 -3\n"
+    ∷ printing (list-line (bytes "origin") (paper (reported (listed []))) (pos 7 ∷ [])) "origin\n"
     ∷ printing (list-line (bytes "why") (paper (refused 18 3)) (pos 7 ∷ [])) "refused 18 3\n"
-    ∷ printing (trail-lines (paper (listed (pos 3 ∷ pos 0 ∷ pos 0 ∷ negsuc 1 ∷ pos 2 ∷ pos 1 ∷ []))) (pos 3 ∷ pos 0 ∷ pos 0 ∷ negsuc 1 ∷ pos 2 ∷ pos 1 ∷ pos 9 ∷ [])) "t 3 0 0\nt -2 2 1\ntrail 2\n"
-    ∷ printing (trail-lines (paper (listed [])) []) "trail 0\n"
+    ∷ printing (trail-lines (paper (reported (listed (pos 3 ∷ pos 0 ∷ pos 0 ∷ negsuc 1 ∷ pos 2 ∷ pos 1 ∷ [])))) (pos 3 ∷ pos 0 ∷ pos 0 ∷ negsuc 1 ∷ pos 2 ∷ pos 1 ∷ pos 9 ∷ [])) "t 3 0 0\nt -2 2 1\ntrail 2\n"
+    ∷ printing (trail-lines (paper (reported (listed []))) []) "trail 0\n"
     ∷ []
 
 abbrev Right : Printing → Type 0

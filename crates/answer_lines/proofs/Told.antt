@@ -8,7 +8,7 @@ use lib.Seq.{take-at}
 use lib.IntN.{ℤ}
 use borrow.Author.Tests.{ne-eqb}
 use Rattle.numbers.specs.Text.{bytes}
-use Rattle.book.specs.Table.{Answer, listed, paper, list-after}
+use Rattle.book.specs.Table.{Answer, listed, reported, paper, list-after}
 use Rattle.propagate.specs.declared.Propagated.{Propagated}
 use Rattle.propagate.specs.declared.Propagated.the-variants.{Broken, Still, Conflict}
 use Rattle.propagate.specs.Propagate.{propagated-paper, Named}
@@ -23,5 +23,5 @@ pub propagated-told : (r : Propagated) (a : Answer) → propagated-paper r ≡ p
 propagated-told r a e d = on-paper r d ∙ ap stop-line e
 
 -- the whole list of the table, and nothing that stood behind it
-pub list-told : (name : List ℕ) (ls old : List ℤ) → list-line name (paper (listed ls)) (list-after (listed ls) old) ≡ name ++ numbers ls ++ bytes "\n"
+pub list-told : (name : List ℕ) (ls old : List ℤ) → list-line name (paper (reported (listed ls))) (list-after (reported (listed ls)) old) ≡ name ++ numbers ls ++ bytes "\n"
 list-told name ls old = ap (λ (l : List ℤ). name ++ numbers l ++ bytes "\n") (take-at ls (drop (length ls) old) (length ls) refl)

@@ -14,7 +14,8 @@ use Rattle.types.specs.Limits.{base}
 use Rattle.meaning.specs.Meaning.{atom, Sentence, Each}
 use Rattle.meaning.proofs.Gather.{each-map}
 use Rattle.book.specs.Rows.{Row, trail}
-use Rattle.book.specs.Table.{Judged, propagate, bounds, paper, nobody, State, Outcome, ended, propagated, refusals, effect, reply, called}
+use Rattle.book.specs.Table as table
+use Rattle.book.specs.Table.{Judged, propagate, bounds, report, paper, nobody, State, Outcome, ended, propagated, refusals, effect, reply, called}
 use Rattle.book.specs.Book.{JudgesAll, WellFormed}
 use Rattle.book.specs.Means.{IsNumber}
 use Rattle.book.proofs.Judged.{all-judged, all-scoped}
@@ -71,10 +72,10 @@ module _ (n : ℕ) (ss : List Sentence) (js : List Judged) (hs : length ss ≤ 2
   abbrev Small : Outcome → Type 0
   Small o = (natAbs (paper (o .answer) .least) < 10000000000000) × (natAbs (paper (o .answer) .greatest) < 10000000000000)
 
-  bounds-small : (k : ℕ) (rs : List Row) → Sound n ss 0 rs → Small (reply (standing n js rs) (bounds k))
-  bounds-small k rs h = reply-is Small (standing n js rs) (bounds k) (λ c v. (omega arith, omega arith)) there
+  bounds-small : (k : ℕ) (rs : List Row) → Sound n ss 0 rs → Small (reply (standing n js rs) (report (bounds k) 0))
+  bounds-small k rs h = reply-is Small (standing n js rs) (report (bounds k) 0) (λ c v. (omega arith, omega arith)) there
     where
-      there : Passed (refusals (standing n js rs) (bounds k)) → Small (effect (standing n js rs) (bounds k))
+      there : Passed (refusals (standing n js rs) (report (bounds k) 0)) → Small (effect (standing n js rs) (report (bounds k) 0))
       there p =
           let b = both-told (leb 1 k) (leb k (length js)) (p .0) in
           let hi : k ≤ length js = leb→le k (length js) (b .1) in
@@ -88,7 +89,7 @@ module _ (n : ℕ) (ss : List Sentence) (js : List Judged) (hs : length ss ≤ 2
   unfolding bound-lines
   bounds-length zero rs l h = omega arith
   bounds-length (suc k) rs l h =
-      let p = paper (reply (standing n js rs) (bounds (suc k)) .answer) in
+      let p = paper (reply (standing n js rs) (report (bounds (suc k)) 0) .answer) in
       let b = bounds-small (suc k) rs h in
       omega (
         arith,
@@ -110,7 +111,7 @@ module _ (n : ℕ) (ss : List Sentence) (js : List Judged) (w : Each (Scoped n) 
       let x = clash-means n ss js w m 0 rs h k e in
       omega (arith, number-few (suc k) ss (x .sentence) (x .number))
 
-  first-length : (rs : List Row) → Sound n ss 0 rs → length (stop-line (paper (reply (standing n js rs) propagate .answer))) ≤ 18
+  first-length : (rs : List Row) → Sound n ss 0 rs → length (stop-line (paper (reply (standing n js rs) (table.step propagate) .answer))) ≤ 18
   unfolding reply
   first-length rs h =
       let g = growth n ss js w m 0 rs h in
@@ -132,12 +133,12 @@ module _ (n : ℕ) (ss : List Sentence) (js : List Judged) (w : Each (Scoped n) 
 
   listing-length : {q : State} → Standing n ss js q → length (listing q) ≤ page-bytes
   listing-length {q} s =
-      let a : length (stop-line (paper (reply q propagate .answer))) ≤ 18 =
-      subst (λ (p : State). length (stop-line (paper (reply p propagate .answer))) ≤ 18) (sym (s .state)) (first-length (s .rows) (s .sound)) in
+      let a : length (stop-line (paper (reply q (table.step propagate) .answer))) ≤ 18 =
+      subst (λ (p : State). length (stop-line (paper (reply p (table.step propagate) .answer))) ≤ 18) (sym (s .state)) (first-length (s .rows) (s .sound)) in
       omega (
         arith,
-        length-append (stop-line (paper (reply q propagate .answer))) (state-lines (called q propagate)),
-        state-length (step n ss js w m propagate (λ p. refl) s),
+        length-append (stop-line (paper (reply q (table.step propagate) .answer))) (state-lines (called q (table.step propagate))),
+        state-length (step n ss js w m (table.step propagate) (λ p. refl) s),
       )
 
 -- ---- the output

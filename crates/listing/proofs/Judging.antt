@@ -12,7 +12,8 @@ use Rattle.types.specs.Limits.{base}
 use Rattle.meaning.specs.Meaning.{Sentence, Each}
 use Rattle.meaning.proofs.Gather.{each-map}
 use Rattle.book.specs.Rows.{Row}
-use Rattle.book.specs.Table.{Judged, Call, give, propagate, bounds, paper, State, Outcome, reply, called}
+use Rattle.book.specs.Table as table
+use Rattle.book.specs.Table.{Judged, Call, give, propagate, bounds, report, paper, State, Outcome, reply, called}
 use Rattle.book.specs.Book.{JudgesAll, WellFormed}
 use Rattle.book.proofs.Judged.{all-judged, all-scoped}
 use Rattle.book.proofs.Number.{judges-length}
@@ -55,12 +56,12 @@ module _ (n : ℕ) (ss : List Sentence) (js js′ : List Judged) (w : Each (Scop
   heads-alike : {q q′ : State} → Alike q q′ → (v k : ℕ) → Alike (heads-given q v k) (heads-given q′ v k)
   unfolding heads-given
   heads-alike a v zero = a
-  heads-alike a v (suc k) = next (heads-alike a v k) (give (pos (v + suc k))) (λ p. refl)
+  heads-alike a v (suc k) = next (heads-alike a v k) (table.step (give (pos (v + suc k)))) (λ p. refl)
 
   bounds-same : {q q′ : State} → Alike q q′ → (k : ℕ) → bound-lines q k ≡ bound-lines q′ k
   unfolding bound-lines
   bounds-same a zero = refl
-  bounds-same a (suc k) = ap₂ (λ (xs : List ℕ) (o : Outcome). xs ++ bound-line (suc k) (paper (o .answer))) (bounds-same a k) (answer-same a (bounds (suc k)))
+  bounds-same a (suc k) = ap₂ (λ (xs : List ℕ) (o : Outcome). xs ++ bound-line (suc k) (paper (o .answer))) (bounds-same a k) (answer-same a (report (bounds (suc k)) 0))
 
   state-same : {q q′ : State} → Alike q q′ → state-lines q ≡ state-lines q′
   state-same {q} {q′} a =
@@ -70,7 +71,7 @@ module _ (n : ℕ) (ss : List Sentence) (js js′ : List Judged) (w : Each (Scop
 
   listing-same : {q q′ : State} → Alike q q′ → listing q ≡ listing q′
   listing-same a =
-      ap₂ (λ (x y : List ℕ). x ++ y) (ap (λ (o : Outcome). stop-line (paper (o .answer))) (answer-same a propagate)) (state-same (next a propagate (λ p. refl)))
+      ap₂ (λ (x y : List ℕ). x ++ y) (ap (λ (o : Outcome). stop-line (paper (o .answer))) (answer-same a (table.step propagate))) (state-same (next a (table.step propagate) (λ p. refl)))
 
 answered-same : (v : ℕ) (cs : List Constraint) (js : List Judged) → JudgesAll (sentences-in (rows-from (suc v) cs)) js → (a : load.Answer)
     → a ≡ load-answer base area-words (v + length cs) (columns-of (rows-from (suc v) cs)) → (b : Bool) → b ≡ eqb (a .code) 0

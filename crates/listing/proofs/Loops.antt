@@ -11,7 +11,7 @@ use Rattle.types.specs.Limits.{base}
 use Rattle.types.specs.declared.Limits.{Limits}
 use Rattle.numbers.specs.Words.{literal-of}
 use Rattle.book.specs.Rows.{row}
-use Rattle.book.specs.Table.{State, Paper, bounds, paper, reply}
+use Rattle.book.specs.Table.{State, Paper, bounds, report, paper, reply}
 use Rattle.area.specs.Layout.{literal-at, mark-at, rows-from}
 use Rattle.calls.specs.Calls.{area-state, bounds-paper}
 use Rattle.calls.specs.declared.Bounds.{Bounds}
@@ -40,13 +40,13 @@ module _ {page₀ page page′ : List ℕ} {at place r : ℕ} where
       (then p q)
 
   pub bound-more :
-      (w : List ℕ) (k : ℕ) {lim : Limits} (b : Bounds) → lim ≡ base → bounds-paper b ≡ paper (reply (area-state lim w) (bounds (k + 1)) .answer) →
+      (w : List ℕ) (k : ℕ) {lim : Limits} (b : Bounds) → lim ≡ base → bounds-paper b ≡ paper (reply (area-state lim w) (report (bounds (k + 1)) 0) .answer) →
       Writes page₀ at page place (bound-lines (area-state base w) k) → Writes page place page′ r (bound-line (k + 1) (bounds-paper b)) →
       Writes page₀ at page′ r (bound-lines (area-state base w) (k + 1))
   unfolding bound-lines
   bound-more w k {lim} b l e p q =
-      let s : bounds-paper b ≡ paper (reply (area-state base w) (bounds (suc k)) .answer) =
-      e ∙ ap₂ (λ (x : Limits) (m : ℕ). paper (reply (area-state x w) (bounds m) .answer)) l (add-one k) in
+      let s : bounds-paper b ≡ paper (reply (area-state base w) (report (bounds (suc k)) 0) .answer) =
+      e ∙ ap₂ (λ (x : Limits) (m : ℕ). paper (reply (area-state x w) (report (bounds m) 0) .answer)) l (add-one k) in
       subst (Writes page₀ at page′ r)
       (ap₂ (λ (m : ℕ) (x : Paper). bound-lines (area-state base w) k ++ bound-line m x) (add-one k) s
       ∙ ap (λ (m : ℕ). bound-lines (area-state base w) m) (sym (add-one k)))

@@ -13,7 +13,7 @@ use Rattle.types.specs.declared.Limits.{Limits}
 use Rattle.types.specs.declared.Counters as t
 use Rattle.meaning.specs.Meaning.{atom}
 use Rattle.book.specs.Rows.{Row}
-use Rattle.book.specs.Table.{Call, give, propagate, refused, done, Paper, paper, State, Outcome, unchanged, no-atom, on-trail, ended, effect, propagated, reply, following, called}
+use Rattle.book.specs.Table.{Call, give, propagate, step, refused, done, Paper, paper, State, Outcome, unchanged, no-atom, on-trail, ended, effect, propagated, reply, following, called}
 use Rattle.book.specs.Book.{Counters}
 use Rattle.area.specs.Whole.{Whole}
 use Rattle.trail.specs.Ready.{Usable}
@@ -51,26 +51,26 @@ refused-same q e true b n o s t = (ap (λ (y : Outcome). y .level) s, ap (λ (y 
 refused-same q e false true n o s t = (ap (λ (y : Outcome). y .level) s, ap (λ (y : Outcome). y .rows) s)
 refused-same q e false false n o s t = absurd (subst (λ (y : Bool). T (y || false)) (ap (λ (y : Outcome). is-refusal (y .answer)) s ∙ n) t)
 
-give-kept : (w : List ℕ) (l : ℤ) → T (keeps (area-state base w) (give l)) → area-state base w ≡ called (area-state base w) (give l)
+give-kept : (w : List ℕ) (l : ℤ) → T (keeps (area-state base w) (give l)) → area-state base w ≡ called (area-state base w) (step (give l))
 unfolding reply
 give-kept w l t =
     let q : State = area-state base w in
-    let s = refused-same q (effect q (give l)) (no-atom q l) (on-trail q (atom l)) refl (reply q (give l)) refl t in
+    let s = refused-same q (effect q (step (give l))) (no-atom q l) (on-trail q (atom l)) refl (reply q (step (give l))) refl t in
     ap₂ (λ (v : ℕ) (rows : List Row). following q (record { answer = done; level = v; rows = rows })) (sym (s .0)) (sym (s .1))
 
-pub give-next : {w w′ : List ℕ} {c c′ : Counters} (l : ℤ) {p : Paper} → Whole base w c → Acts base w w′ c c′ (give l) p → Next w w′ c′ (give l)
+pub give-next : {w w′ : List ℕ} {c c′ : Counters} (l : ℤ) {p : Paper} → Whole base w c → Acts base w w′ c c′ (give l) p → Next w w′ c′ (step (give l))
 give-next {w} {w′} {c} {c′} l h a = by (keeps (area-state base w) (give l)) refl
   where
-    kept : T (keeps (area-state base w) (give l)) → (w′ ≡ w) × (c′ ≡ c) → Next w w′ c′ (give l)
+    kept : T (keeps (area-state base w) (give l)) → (w′ ≡ w) × (c′ ≡ c) → Next w w′ c′ (step (give l))
     kept t e = record {
       whole = subst (λ (d : Counters). Whole base w′ d) (sym (e .1)) (subst (λ (v : List ℕ). Whole base v c) (sym (e .0)) h);
       state = ap (area-state base) (e .0) ∙ give-kept w l t;
       size = ap length (e .0);
     }
 
-    by : (b : Bool) → b ≡ keeps (area-state base w) (give l) → Next w w′ c′ (give l)
+    by : (b : Bool) → b ≡ keeps (area-state base w) (give l) → Next w w′ c′ (step (give l))
     by true e = let t : T (keeps (area-state base w) (give l)) = subst T e tt in kept t (a .kept h t)
-    by false e = moved-next (give l) (a .moved h (subst (λ (b : Bool). T (not b)) e tt))
+    by false e = moved-next (step (give l)) (a .moved h (subst (λ (b : Bool). T (not b)) e tt))
 
 -- ---- propagate
 
@@ -83,13 +83,13 @@ unfolding reply
 propagate-moves w =
     subst (λ (b : Bool). T (not (b || false))) (sym (ended-moves (propagated (area-state base w) .sentence) _)) tt
 
-pub propagate-next : {w w′ : List ℕ} {c c′ : Counters} {p : Paper} → Whole base w c → Acts base w w′ c c′ propagate p → Next w w′ c′ propagate
-propagate-next {w} h a = moved-next propagate (a .moved h (propagate-moves w))
+pub propagate-next : {w w′ : List ℕ} {c c′ : Counters} {p : Paper} → Whole base w c → Acts base w w′ c c′ propagate p → Next w w′ c′ (step propagate)
+propagate-next {w} h a = moved-next (step propagate) (a .moved h (propagate-moves w))
 
 pub propagate-line :
     {w w′ : List ℕ} {c c′ : Counters} (r : Propagated) → Whole base w c → Acts base w w′ c c′ propagate (propagated-paper r) → Named r →
-    propagated-line r ≡ stop-line (paper (reply (area-state base w) propagate .answer))
-propagate-line {w} r h a d = propagated-told r (reply (area-state base w) propagate .answer) (a .answer .told h) d
+    propagated-line r ≡ stop-line (paper (reply (area-state base w) (step propagate) .answer))
+propagate-line {w} r h a d = propagated-told r (reply (area-state base w) (step propagate) .answer) (a .answer .told h) d
 
 -- ---- the listing
 
@@ -124,7 +124,7 @@ heads-more {w} {w₁} {w₂} {v} {k} {c} {c′} l e g a =
       stands = record {
         whole = n .whole;
         state = n .state
-            ∙ ap₂ (λ (q : State) (m : ℤ). called q (give m)) (g .stands .state) (e ∙ ap (λ (m : ℕ). pos (v + m)) (add-one k))
+            ∙ ap₂ (λ (q : State) (m : ℤ). called q (step (give m))) (g .stands .state) (e ∙ ap (λ (m : ℕ). pos (v + m)) (add-one k))
             ∙ ap (heads-given (area-state base w) v) (sym (add-one k));
       };
       size = n .size ∙ g .size;

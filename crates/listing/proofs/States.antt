@@ -10,6 +10,7 @@ use borrow.Author.Tests.{eq-eqb, le-leb}
 use Rattle.types.specs.Limits.{base}
 use Rattle.meaning.specs.Meaning.{Sentence, Each}
 use Rattle.book.specs.Rows.{Row}
+use Rattle.book.specs.Table as table
 use Rattle.book.specs.Table.{Judged, Call, give, State, Outcome, effect, reply, called}
 use Rattle.book.specs.Book.{JudgesAll, Book, Asked, need, book-state}
 use Rattle.book.specs.Sound.{Scoped, Sound}
@@ -59,4 +60,4 @@ module _ (n : ℕ) (ss : List Sentence) (js : List Judged) (w : Each (Scoped n) 
   pub heads-stand : (q : State) (v k : ℕ) → Standing n ss js q → Standing n ss js (heads-given q v k)
   unfolding heads-given
   heads-stand q v zero s = s
-  heads-stand q v (suc k) s = step (give (pos (v + suc k))) (λ p. refl) (heads-stand q v k s)
+  heads-stand q v (suc k) s = step (table.step (give (pos (v + suc k)))) (λ p. refl) (heads-stand q v k s)

@@ -10,7 +10,7 @@ use lib.Dec.{eqb}
 use Rattle.types.specs.Limits.{base}
 use Rattle.numbers.specs.Text.{bytes, decimal, signed-decimal}
 use Rattle.book.specs.Rows.{Row}
-use Rattle.book.specs.Table.{give, propagate, bounds, Judged, Paper, paper, State, reply, called}
+use Rattle.book.specs.Table.{give, propagate, bounds, step, report, Judged, Paper, paper, State, reply, called}
 use Rattle.book.specs.Book.{judged-all, rules-of}
 use Rattle.columns.specs.Columns.{Written, sentences-in}
 use Rattle.columns.specs.declared.Answer as load
@@ -42,14 +42,14 @@ row-lines (r ∷ rs) = row-lines rs ++ row-line r
 -- the bounds of sentences 1 to k
 unfoldable pub bound-lines : State → ℕ → List ℕ
 bound-lines q zero = []
-bound-lines q (suc k) = bound-lines q k ++ bound-line (suc k) (paper (reply q (bounds (suc k)) .answer))
+bound-lines q (suc k) = bound-lines q k ++ bound-line (suc k) (paper (reply q (report (bounds (suc k)) 0) .answer))
 
 abbrev pub state-lines : State → List ℕ
 state-lines q = row-lines (q .rows) ++ bound-lines q (length (q .sentences))
 
 -- propagate's answer, and 'the other lines follow either'
 abbrev pub listing : State → List ℕ
-listing q = stop-line (paper (reply q propagate .answer)) ++ state-lines (called q propagate)
+listing q = stop-line (paper (reply q (step propagate) .answer)) ++ state-lines (called q (step propagate))
 
 -- ---- the program
 
@@ -68,7 +68,7 @@ loaded n js = record { broken = false; atoms = n; levels = base .levels; sentenc
 -- 'Constraint j has head V + j, given at level 0 in order': the first k of them
 unfoldable pub heads-given : State → ℕ → ℕ → State
 heads-given q v zero = q
-heads-given q v (suc k) = called (heads-given q v k) (give (pos (v + suc k)))
+heads-given q v (suc k) = called (heads-given q v k) (step (give (pos (v + suc k))))
 
 -- V variables, C constraints, their sentences, and load's answer
 abbrev pub answered : ℕ → ℕ → List Judged → load.Answer → List ℕ
