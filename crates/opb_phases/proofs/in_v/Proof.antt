@@ -1,21 +1,14 @@
 -- A digit goes on with V; behind its last digit V's fault comes first, then the fixed text, of which nothing has been read.
-use mathlib.Core.Path.{sym, subst}
 use Prim.Native.Nat.{_<_}
+use mathlib.Core.Path.{sym, subst}
 use native.Mathlib.Omega.{arith}
 use borrow.Author.Needs.{needs}
 use borrow.Author.Tests.{eq-eqb, ne-eqb}
 use Rattle.opb_phases.specs.Phases.{place}
 use Rattle.opb_states.specs.declared.State.{State}
+use Rattle.opb_states.proofs.Tests.{yes, no, yes-told, no-told}
 use Rattle.opb_phases.proofs.in_v.Statement.{statement}
 use Rattle.opb_phases.proofs.in_v.Tie as tie
-
-returns : tie.Need-returns
-unfolding place
-returns c = simp (c .digits .ensures, eq-eqb _ _ (c .before .if1 .taken))
-
-returns-2 : tie.Need-returns-2
-unfolding place
-returns-2 c = simp (ne-eqb _ _ (c .if2 .taken), sym (c .before .v-fault .ensures), ne-eqb _ _ (c .before .before .if1 .left))
 
 middle-requires : tie.Need-middle-requires
 middle-requires c κs = subst (λ (t : State). t .matched < 14) (sym (c .sizing .ensures)) (omega arith)
@@ -25,7 +18,9 @@ unfolding place
 returns-3 c = simp (c .middle .ensures, c .before .sizing .ensures, eq-eqb _ _ (c .before .before .before .if2 .left), sym (c .before .before .before .before .v-fault .ensures), ne-eqb _ _ (c .before .before .before .before .before .if1 .left))
 
 pub in-v-spec : {M : Type 1} → statement M
+unfolding place
 in-v-spec =
     tie.close
     (tie.spec
-    (λ c κs. search needs) returns (λ c κs. search needs) returns-2 (λ c κs. search needs) middle-requires returns-3)
+    (λ c κs. search needs) (λ c. search (yes, no, yes-told, no-told)) (λ c κs. search needs) (λ c. search (yes, no, yes-told, no-told))
+    (λ c κs. search needs) middle-requires returns-3)

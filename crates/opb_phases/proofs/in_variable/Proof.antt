@@ -2,33 +2,19 @@
 -- for an entry.
 use mathlib.Core.Path.{sym, _∙_}
 use borrow.Author.Needs.{needs}
-use borrow.Author.Tests.{eq-eqb, ne-eqb}
 use Rattle.opb_phases.specs.Phases.{place}
 use Rattle.opb_states.proofs.Sums.{entry-left}
+use Rattle.opb_states.proofs.Tests.{yes, no, yes-told, no-told}
 use Rattle.opb_phases.proofs.in_variable.Statement.{statement}
 use Rattle.opb_phases.proofs.in_variable.Tie as tie
-
-returns : tie.Need-returns
-unfolding place
-returns c = simp (c .digits .ensures, eq-eqb _ _ (c .before .if1 .taken))
-
-returns-2 : tie.Need-returns-2
-unfolding place
-returns-2 c = simp (ne-eqb _ _ (c .if2 .taken), sym (c .before .variable-fault .ensures), ne-eqb _ _ (c .before .before .if1 .left))
 
 term-requires : tie.Need-term-requires
 term-requires c κs = (c .before .before .before .before .pre, entry-left (c .before .before .before .before .args .s) (sym (c .before .before .variable-fault .ensures) ∙ c .before .if2 .left))
 
-returns-3 : tie.Need-returns-3
-unfolding place
-returns-3 c = simp (c .term .ensures, eq-eqb _ _ (c .before .if3 .taken), eq-eqb _ _ (c .before .before .if2 .left), sym (c .before .before .before .variable-fault .ensures), ne-eqb _ _ (c .before .before .before .before .if1 .left))
-
-returns-4 : tie.Need-returns-4
-unfolding place
-returns-4 c = simp (c .wrong .ensures, ne-eqb _ _ (c .before .if3 .left), eq-eqb _ _ (c .before .before .if2 .left), sym (c .before .before .before .variable-fault .ensures), ne-eqb _ _ (c .before .before .before .before .if1 .left))
-
 pub in-variable-spec : {M : Type 1} → statement M
+unfolding place
 in-variable-spec =
     tie.close
     (tie.spec
-    (λ c κs. search needs) returns (λ c κs. search needs) returns-2 term-requires returns-3 (λ c κs. search needs) returns-4)
+    (λ c κs. search needs) (λ c. search (yes, no, yes-told, no-told)) (λ c κs. search needs) (λ c. search (yes, no, yes-told, no-told)) term-requires
+    (λ c. search (yes, no, yes-told, no-told)) (λ c κs. search needs) (λ c. search (yes, no, yes-told, no-told)))
