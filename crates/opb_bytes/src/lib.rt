@@ -1,19 +1,18 @@
 // The grammar of OPB texts, as document 01 lays it down: an automaton that goes through a text byte by byte.
-use opb_states::Counts;
-use opb_states::Next;
-use opb_states::Phase;
-use opb_states::Sizes;
-use opb_states::State;
+use opb_grammar::Counts;
+use opb_grammar::Next;
+use opb_grammar::Phase;
+use opb_grammar::Sizes;
+use opb_grammar::State;
 ghost use mathlib.Core.Path.{_≡_};
-ghost use Rattle.opb_phases.specs.Phases as phases;
-ghost use Rattle.opb_bytes.specs.Grammar as grammar;
+ghost use Rattle.opb_grammar.specs.Grammar as grammar;
 ghost use Rattle.opb_bytes.specs.States.{Sound};
 
 // ---- the automaton: a byte b of class k, by the phase
 
-fn place(s: State, b: u8, k: u8) -> Next
+fn transition(s: State, b: u8, k: u8) -> Next
     requires { ⌜ Sound s ⌝ }
-    ensures { λ r. ⌜ r ≡ phases.place (s .phase) s b k ⌝ }
+    ensures { λ r. ⌜ r ≡ grammar.transition (s .phase) s b k ⌝ }
 {
     let p = s.phase;
     match p {
@@ -47,7 +46,7 @@ pub fn step(s: State, b: u8) -> Next
     requires { ⌜ Sound s ⌝ }
     ensures { λ r. ⌜ r ≡ grammar.step s b ⌝ }
 {
-    place(s, b, opb_classes::class(b))
+    transition(s, b, opb_classes::class(b))
 }
 
 // ---- the end of the text
@@ -67,11 +66,11 @@ pub fn ends(s: State) -> u64
 {
     let p = s.phase;
     match p {
-        Phase::InV => cut_off(opb_states::v_fault(s)),
-        Phase::InC => cut_off(opb_states::c_fault(s)),
-        Phase::InWeight => cut_off(opb_states::long_fault(s)),
-        Phase::InVariable => cut_off(opb_states::variable_fault(s)),
-        Phase::InBound => cut_off(opb_states::long_fault(s)),
+        Phase::InV => cut_off(opb_grammar::v_fault(s)),
+        Phase::InC => cut_off(opb_grammar::c_fault(s)),
+        Phase::InWeight => cut_off(opb_grammar::long_fault(s)),
+        Phase::InVariable => cut_off(opb_grammar::variable_fault(s)),
+        Phase::InBound => cut_off(opb_grammar::long_fault(s)),
         Phase::LineStart => 0,
         Phase::Between => 0,
         Phase::Comment => 0,
@@ -85,7 +84,7 @@ pub fn ends(s: State) -> u64
 pub fn start() -> State
     ensures { λ r. ⌜ r ≡ grammar.begins ⌝ }
 {
-    let number = opb_states::sign(false);
+    let number = opb_grammar::sign(false);
     let sizes = Sizes {
         variables: 0,
         constraints: 0,

@@ -5,21 +5,21 @@ use opb_classes::EQUAL;
 use opb_classes::EX;
 use opb_classes::GREATER;
 use opb_classes::STAR;
-use opb_states::Next;
-use opb_states::Phase;
-use opb_states::Sizes;
-use opb_states::State;
+use opb_grammar::Next;
+use opb_grammar::Phase;
+use opb_grammar::Sizes;
+use opb_grammar::State;
 ghost use mathlib.Core.Path.{_≡_};
 ghost use Prim.Native.Nat.{_≤_};
-ghost use Rattle.opb_phases.specs.Phases.{place};
+ghost use Rattle.opb_grammar.specs.Grammar.{transition};
 
 pub fn in_v(s: State, b: u8, k: u8) -> Next
-    ensures { λ r. ⌜ r ≡ place Phase.InV s b k ⌝ }
+    ensures { λ r. ⌜ r ≡ transition Phase.InV s b k ⌝ }
 {
     if k == DIGIT {
         return opb_pieces::digits(s, Phase::InV, b, k);
     }
-    let f = opb_states::v_fault(s);
+    let f = opb_grammar::v_fault(s);
     if f != 0 {
         return Next::Fault(f);
     }
@@ -28,16 +28,16 @@ pub fn in_v(s: State, b: u8, k: u8) -> Next
         variables: n.size,
         constraints: 0,
     };
-    opb_pieces::middle(opb_states::sizing(s, Phase::Middle, sizes), b)
+    opb_pieces::middle(opb_grammar::sizing(s, Phase::Middle, sizes), b)
 }
 
 pub fn in_c(s: State, b: u8, k: u8) -> Next
-    ensures { λ r. ⌜ r ≡ place Phase.InC s b k ⌝ }
+    ensures { λ r. ⌜ r ≡ transition Phase.InC s b k ⌝ }
 {
     if k == DIGIT {
         return opb_pieces::digits(s, Phase::InC, b, k);
     }
-    let f = opb_states::c_fault(s);
+    let f = opb_grammar::c_fault(s);
     if f != 0 {
         return Next::Fault(f);
     }
@@ -48,103 +48,103 @@ pub fn in_c(s: State, b: u8, k: u8) -> Next
         constraints: n.size,
     };
     if b == b'\n' {
-        return Next::More(opb_states::sizing(s, Phase::LineStart, sizes));
+        return Next::More(opb_grammar::sizing(s, Phase::LineStart, sizes));
     }
     if b == b'\r' {
-        return Next::More(opb_states::sizing(s, Phase::AfterReturn, sizes));
+        return Next::More(opb_grammar::sizing(s, Phase::AfterReturn, sizes));
     }
-    opb_states::wrong()
+    opb_grammar::wrong()
 }
 
 pub fn after_return(s: State, b: u8, k: u8) -> Next
-    ensures { λ r. ⌜ r ≡ place Phase.AfterReturn s b k ⌝ }
+    ensures { λ r. ⌜ r ≡ transition Phase.AfterReturn s b k ⌝ }
 {
     if b == b'\n' {
-        return opb_states::moved(s, Phase::LineStart);
+        return opb_grammar::moved(s, Phase::LineStart);
     }
-    opb_states::wrong()
+    opb_grammar::wrong()
 }
 
 pub fn line_start(s: State, b: u8, k: u8) -> Next
-    ensures { λ r. ⌜ r ≡ place Phase.LineStart s b k ⌝ }
+    ensures { λ r. ⌜ r ≡ transition Phase.LineStart s b k ⌝ }
 {
     if k == STAR {
-        return opb_states::moved(s, Phase::Comment);
+        return opb_grammar::moved(s, Phase::Comment);
     }
     opb_pieces::between(s, b, k)
 }
 
 pub fn comment(s: State, b: u8, k: u8) -> Next
-    ensures { λ r. ⌜ r ≡ place Phase.Comment s b k ⌝ }
+    ensures { λ r. ⌜ r ≡ transition Phase.Comment s b k ⌝ }
 {
     if b == b'\n' {
-        return opb_states::moved(s, Phase::LineStart);
+        return opb_grammar::moved(s, Phase::LineStart);
     }
-    opb_states::moved(s, Phase::Comment)
+    opb_grammar::moved(s, Phase::Comment)
 }
 
 pub fn in_weight(s: State, b: u8, k: u8) -> Next
-    ensures { λ r. ⌜ r ≡ place Phase.InWeight s b k ⌝ }
+    ensures { λ r. ⌜ r ≡ transition Phase.InWeight s b k ⌝ }
 {
     if k == DIGIT {
         return opb_pieces::digits(s, Phase::InWeight, b, k);
     }
-    let f = opb_states::long_fault(s);
+    let f = opb_grammar::long_fault(s);
     if f != 0 {
         return Next::Fault(f);
     }
     if k == BLANK {
-        return Next::More(opb_states::weighing(s, Phase::BeforeX));
+        return Next::More(opb_grammar::weighing(s, Phase::BeforeX));
     }
-    opb_states::wrong()
+    opb_grammar::wrong()
 }
 
 pub fn before_x(s: State, b: u8, k: u8) -> Next
-    ensures { λ r. ⌜ r ≡ place Phase.BeforeX s b k ⌝ }
+    ensures { λ r. ⌜ r ≡ transition Phase.BeforeX s b k ⌝ }
 {
     if k == BLANK {
-        return opb_states::moved(s, Phase::BeforeX);
+        return opb_grammar::moved(s, Phase::BeforeX);
     }
     if k == EX {
-        return opb_states::numbered(s, Phase::BeforeVariable, opb_states::sign(false));
+        return opb_grammar::numbered(s, Phase::BeforeVariable, opb_grammar::sign(false));
     }
-    opb_states::wrong()
+    opb_grammar::wrong()
 }
 
 pub fn before_variable(s: State, b: u8, k: u8) -> Next
-    ensures { λ r. ⌜ r ≡ place Phase.BeforeVariable s b k ⌝ }
+    ensures { λ r. ⌜ r ≡ transition Phase.BeforeVariable s b k ⌝ }
 {
     if b == b'0' {
-        return opb_states::wrong();
+        return opb_grammar::wrong();
     }
     opb_pieces::digits(s, Phase::InVariable, b, k)
 }
 
 pub fn in_variable(s: State, b: u8, k: u8) -> Next
     requires { ⌜ s .counts .terms ≤ s .counts .entries ⌝ }
-    ensures { λ r. ⌜ r ≡ place Phase.InVariable s b k ⌝ }
+    ensures { λ r. ⌜ r ≡ transition Phase.InVariable s b k ⌝ }
 {
     if k == DIGIT {
         return opb_pieces::digits(s, Phase::InVariable, b, k);
     }
-    let f = opb_states::variable_fault(s);
+    let f = opb_grammar::variable_fault(s);
     if f != 0 {
         return Next::Fault(f);
     }
     if k == BLANK {
         return Next::Term(opb_pieces::term(s));
     }
-    opb_states::wrong()
+    opb_grammar::wrong()
 }
 
 pub fn after_term(s: State, b: u8, k: u8) -> Next
-    ensures { λ r. ⌜ r ≡ place Phase.AfterTerm s b k ⌝ }
+    ensures { λ r. ⌜ r ≡ transition Phase.AfterTerm s b k ⌝ }
 {
     if k == BLANK {
-        return opb_states::moved(s, Phase::AfterTerm);
+        return opb_grammar::moved(s, Phase::AfterTerm);
     }
     if k == GREATER {
-        return opb_states::moved(s, Phase::AfterGreater);
+        return opb_grammar::moved(s, Phase::AfterGreater);
     }
     if k == EQUAL {
         return opb_pieces::relation_equal(s);
@@ -153,39 +153,39 @@ pub fn after_term(s: State, b: u8, k: u8) -> Next
 }
 
 pub fn after_greater(s: State, b: u8, k: u8) -> Next
-    ensures { λ r. ⌜ r ≡ place Phase.AfterGreater s b k ⌝ }
+    ensures { λ r. ⌜ r ≡ transition Phase.AfterGreater s b k ⌝ }
 {
     if k == EQUAL {
         return opb_pieces::relation_at_least(s);
     }
-    opb_states::wrong()
+    opb_grammar::wrong()
 }
 
 pub fn after_relation(s: State, b: u8, k: u8) -> Next
-    ensures { λ r. ⌜ r ≡ place Phase.AfterRelation s b k ⌝ }
+    ensures { λ r. ⌜ r ≡ transition Phase.AfterRelation s b k ⌝ }
 {
     if k == BLANK {
-        return opb_states::moved(s, Phase::BeforeBound);
+        return opb_grammar::moved(s, Phase::BeforeBound);
     }
-    opb_states::wrong()
+    opb_grammar::wrong()
 }
 
 pub fn before_bound(s: State, b: u8, k: u8) -> Next
-    ensures { λ r. ⌜ r ≡ place Phase.BeforeBound s b k ⌝ }
+    ensures { λ r. ⌜ r ≡ transition Phase.BeforeBound s b k ⌝ }
 {
     if k == BLANK {
-        return opb_states::moved(s, Phase::BeforeBound);
+        return opb_grammar::moved(s, Phase::BeforeBound);
     }
     opb_pieces::begin(Phase::BoundSign, Phase::InBound, s, b, k)
 }
 
 pub fn in_bound(s: State, b: u8, k: u8) -> Next
-    ensures { λ r. ⌜ r ≡ place Phase.InBound s b k ⌝ }
+    ensures { λ r. ⌜ r ≡ transition Phase.InBound s b k ⌝ }
 {
     if k == DIGIT {
         return opb_pieces::digits(s, Phase::InBound, b, k);
     }
-    let f = opb_states::long_fault(s);
+    let f = opb_grammar::long_fault(s);
     if f != 0 {
         return Next::Fault(f);
     }

@@ -8,14 +8,11 @@ use lib.ListN.{replicate}
 use lib.IntN.{ℤ, pos, negℤ}
 use Rattle.numbers.specs.Text.{bytes}
 use Rattle.meaning.specs.Meaning.{Entry}
-use Rattle.opb_states.specs.declared.Phase.the-variants.{AfterTerm}
-use Rattle.opb_states.specs.declared.State.{State}
-use Rattle.opb_states.specs.declared.Next.{Next}
-use Rattle.opb_states.specs.declared.Next.the-variants.{More, Term, Constraint as Passed, Fault}
-use Rattle.opb_states.specs.States.{sizing, more, long-fault, v-fault, c-fault, variable-fault}
-use Rattle.opb_pieces.specs.Pieces.{expect, begin, between, relation-at-least, relation-equal, finish}
-use Rattle.opb_phases.specs.Phases.{place}
-use Rattle.opb_bytes.specs.Grammar.{ends}
+use Rattle.opb_grammar.specs.declared.Phase.the-variants.{AfterTerm}
+use Rattle.opb_grammar.specs.declared.State.{State}
+use Rattle.opb_grammar.specs.declared.Next.{Next}
+use Rattle.opb_grammar.specs.declared.Next.the-variants.{More, Term, Constraint as Passed, Fault}
+use Rattle.opb_grammar.specs.Grammar.{sizing, more, long-fault, v-fault, c-fault, variable-fault, expect, begin, between, relation-at-least, relation-equal, finish, transition, ends}
 use Rattle.opb_text.specs.Text.{Constraint, Reading, taken, refused, go, reading}
 
 -- three variables and one constraint, and then this
@@ -71,7 +68,7 @@ good =
     (taken 1 (at-least (term (pos 1) 1 ∷ term (pos 1) 1 ∷ []) (pos 1) ∷ equals (term (pos 1) 1 ∷ []) (pos 1) ∷ [])) ∷ []
 
 pub all-taken : map (λ (r : Row). reading (r .text)) good ≡ map (λ (r : Row). r .says) good
-unfolding reading go place more long-fault v-fault c-fault variable-fault expect begin between relation-at-least relation-equal finish ends
+unfolding reading go transition more long-fault v-fault c-fault variable-fault expect begin between relation-at-least relation-equal finish ends
 all-taken = refl
 
 -- ---- texts that are refused, with the number of constraints complete before the fault
@@ -157,7 +154,7 @@ bad =
     row (three-one "1 x12345678901234567890y") (refused 21 0) ∷ []
 
 pub all-refused : map (λ (r : Row). reading (r .text)) bad ≡ map (λ (r : Row). r .says) bad
-unfolding reading go place more long-fault v-fault c-fault variable-fault expect begin between relation-at-least relation-equal finish ends
+unfolding reading go transition more long-fault v-fault c-fault variable-fault expect begin between relation-at-least relation-equal finish ends
 all-refused = refl
 
 -- ---- 23 comes first: 65,537 bytes; of 65,536 the first byte is the fault
@@ -170,7 +167,7 @@ unfolding reading
 too-many-bytes = refl
 
 pub most-bytes : reading (spaces 65536) ≡ refused 20 0
-unfolding reading go place expect
+unfolding reading go transition expect
 most-bytes = refl
 
 -- ---- 24, by the counts: of sentences at the relation, of entries at the variable and, for the second copy, at `=`

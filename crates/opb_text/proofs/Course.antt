@@ -9,10 +9,10 @@ use lib.ListN.{length, getD, drop, drop-of-length-le}
 use lib.Seq.{drop-cons}
 use borrow.Author.Tests.{lt-ltb, le-ltb}
 use Rattle.meaning.specs.Meaning.{Entry}
-use Rattle.opb_states.specs.declared.State.{State}
-use Rattle.opb_states.specs.declared.Next.{Next}
-use Rattle.opb_states.specs.declared.Next.the-variants as next
-use Rattle.opb_bytes.specs.Grammar.{step, ends, begins}
+use Rattle.opb_grammar.specs.declared.State.{State}
+use Rattle.opb_grammar.specs.declared.Next.{Next}
+use Rattle.opb_grammar.specs.declared.Next.the-variants as next
+use Rattle.opb_grammar.specs.Grammar.{step, ends, begins}
 use Rattle.opb_bytes.specs.States.{Sound}
 use Rattle.opb_text.specs.Text.{Constraint, refused, term-of, constraint-of, turn, closing, go, reading}
 use Rattle.opb_text.proofs.Keeps.{Held, Kept, step-kept, begins-held}

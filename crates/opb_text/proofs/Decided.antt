@@ -8,10 +8,10 @@ use lib.ListN.{length, getD, length-append}
 use lib.Dec.{eqb, ltb}
 use borrow.Author.Tests.{ne-eqb}
 use Rattle.meaning.specs.Meaning.{Entry}
-use Rattle.opb_states.specs.declared.State.{State}
-use Rattle.opb_states.specs.declared.Next.{Next}
-use Rattle.opb_states.specs.declared.Next.the-variants as next
-use Rattle.opb_bytes.specs.Grammar.{step, ends, begins}
+use Rattle.opb_grammar.specs.declared.State.{State}
+use Rattle.opb_grammar.specs.declared.Next.{Next}
+use Rattle.opb_grammar.specs.declared.Next.the-variants as next
+use Rattle.opb_grammar.specs.Grammar.{step, ends, begins}
 use Rattle.opb_bytes.specs.States.{fixed, Sound}
 use Rattle.opb_text.specs.declared.Read.{Read}
 use Rattle.opb_text.specs.Text.{Constraint, taken, refused, term-of, constraint-of, closing, reading, rows-from, all-entries, nothing-read, stored, read-of}

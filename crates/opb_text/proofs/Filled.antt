@@ -14,10 +14,10 @@ use Rattle.meaning.specs.Meaning.{Entry}
 use Rattle.columns.specs.Columns.{Columns, columns}
 use Rattle.columns.specs.Indexed.{sizes}
 use Rattle.columns.specs.declared.Sizes.{Sizes}
-use Rattle.opb_states.specs.declared.State.{State}
-use Rattle.opb_states.specs.declared.Next.{Next}
-use Rattle.opb_states.specs.declared.Next.the-variants as next
-use Rattle.opb_bytes.specs.Grammar.{bytes-limit, step, ends, begins}
+use Rattle.opb_grammar.specs.declared.State.{State}
+use Rattle.opb_grammar.specs.declared.Next.{Next}
+use Rattle.opb_grammar.specs.declared.Next.the-variants as next
+use Rattle.opb_grammar.specs.Grammar.{bytes-limit, step, ends, begins}
 use Rattle.opb_bytes.specs.States.{fixed, Sound}
 use Rattle.opb_text.specs.declared.Read.{Read}
 use Rattle.opb_text.specs.Text.{Constraint, Reading, taken, refused, signed-of, term-of, constraint-of, closing, go, reading, rows-from, all-entries, columns-of, nothing-read, read-of, over-all, result-of, sentence-room, entry-room, Reads}

@@ -11,7 +11,7 @@ use Rattle.meaning.specs.Meaning.{Entry}
 use Rattle.columns.specs.Columns.{Columns, columns, Written}
 use Rattle.columns.specs.Indexed.{sizes}
 use Rattle.columns.specs.declared.Sizes.{Sizes}
-use Rattle.opb_states.specs.declared.State.{State}
+use Rattle.opb_grammar.specs.declared.State.{State}
 use Rattle.opb_text.specs.Text.{Constraint, signed-of, term-of, constraint-of, sum-row, rows-of, rows-from, all-entries, columns-of, over, over-all}
 use Rattle.opb_text.specs.States.{both, first-row, copied, with-rows}
 use Rattle.opb_text.proofs.Totals.{again, entries-of, all-rows, all-row-entries, entries-append, rows-length, rows-more}

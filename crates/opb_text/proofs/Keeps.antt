@@ -9,19 +9,16 @@ use lib.Dec.{leb, eqb}
 use lib.ListN.{length, getD, length-append}
 use borrow.Author.Tests.{leb-true, eqb-true, eqb-false}
 use Rattle.meaning.specs.Meaning.{Entry}
-use Rattle.opb_states.specs.declared.Phase.{Phase}
-use Rattle.opb_states.specs.declared.Phase.the-variants.{Opening, BeforeV, InV, Middle, BeforeC, InC, AfterReturn, LineStart, Between, Comment, WeightSign, InWeight, BeforeX, BeforeVariable, InVariable, AfterTerm, AfterGreater, AfterRelation, BeforeBound, BoundSign, InBound, AfterBound}
-use Rattle.opb_states.specs.declared.Number.{Number}
-use Rattle.opb_states.specs.declared.State.{State}
-use Rattle.opb_states.specs.declared.Next.{Next}
-use Rattle.opb_states.specs.declared.Next.the-variants as next
-use Rattle.opb_states.specs.States.{at, numbering, sizing, signed, more, long-fault, v-fault, c-fault, variable-fault, behind}
-use Rattle.opb_pieces.specs.Pieces.{opening, middle, expect, digits, begin, between, term, relation-at-least, relation-equal, finish}
-use Rattle.opb_phases.specs.Phases.{place}
-use Rattle.opb_bytes.specs.Grammar.{step, begins}
+use Rattle.opb_grammar.specs.declared.Phase.{Phase}
+use Rattle.opb_grammar.specs.declared.Phase.the-variants.{Opening, BeforeV, InV, Middle, BeforeC, InC, AfterReturn, LineStart, Between, Comment, WeightSign, InWeight, BeforeX, BeforeVariable, InVariable, AfterTerm, AfterGreater, AfterRelation, BeforeBound, BoundSign, InBound, AfterBound}
+use Rattle.opb_grammar.specs.declared.Number.{Number}
+use Rattle.opb_grammar.specs.declared.State.{State}
+use Rattle.opb_grammar.specs.declared.Next.{Next}
+use Rattle.opb_grammar.specs.declared.Next.the-variants as next
+use Rattle.opb_grammar.specs.Grammar.{at, numbering, sizing, signed, more, long-fault, v-fault, c-fault, variable-fault, behind, opening, middle, expect, digits, begin, between, term, relation-at-least, relation-equal, finish, transition, step, begins}
 use Rattle.opb_classes.specs.Bytes.{class-of}
 use Rattle.opb_bytes.specs.States.{fixed}
-use Rattle.opb_states.proofs.Sums.{entry-left}
+use Rattle.opb_grammar.proofs.Sums.{entry-left}
 use Rattle.opb_text.specs.Text.{Constraint, term-of, constraint-of}
 use Rattle.opb_text.proofs.Totals.{made, again, sentences-of, entries-of, sentences-more, entries-more}
 
@@ -214,8 +211,8 @@ module _ (s : State) (cs : List Constraint) (es : List Entry) (b k : ℕ) where
   same : Grows s s
   same = omega arith
 
-  kept : (p : Phase) → Tracks (about p) (fixed p) s cs (length es) → Kept s cs es (place p s b k)
-  unfolding place
+  kept : (p : Phase) → Tracks (about p) (fixed p) s cs (length es) → Kept s cs es (transition p s b k)
+  unfolding transition
   kept Opening w = expect-kept s cs es 13 s same opening Opening BeforeV b refl refl (omega arith) w w
   kept BeforeV w = digits-kept s cs es 14 s same InV b k (omega arith) w
   kept InV w =

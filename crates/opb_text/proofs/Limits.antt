@@ -9,13 +9,12 @@ use lib.ListN.{length}
 use lib.Dec.{eqb, ltb}
 use borrow.Author.Tests.{eqb-true, eqb-false}
 use Rattle.meaning.specs.Meaning.{Entry}
-use Rattle.opb_states.specs.declared.Phase.{Phase}
-use Rattle.opb_states.specs.declared.Phase.the-variants.{Opening, BeforeV, InV, Middle, BeforeC, InC, AfterReturn, LineStart, Between, Comment, WeightSign, InWeight, BeforeX, BeforeVariable, InVariable, AfterTerm, AfterGreater, AfterRelation, BeforeBound, BoundSign, InBound, AfterBound}
-use Rattle.opb_states.specs.declared.State.{State}
-use Rattle.opb_states.specs.declared.Next.{Next}
-use Rattle.opb_states.specs.declared.Next.the-variants as next
-use Rattle.opb_bytes.specs.Grammar.{bytes-limit, step, cut-off, ends, begins}
-use Rattle.opb_states.specs.States.{long-fault, v-fault, c-fault, variable-fault}
+use Rattle.opb_grammar.specs.declared.Phase.{Phase}
+use Rattle.opb_grammar.specs.declared.Phase.the-variants.{Opening, BeforeV, InV, Middle, BeforeC, InC, AfterReturn, LineStart, Between, Comment, WeightSign, InWeight, BeforeX, BeforeVariable, InVariable, AfterTerm, AfterGreater, AfterRelation, BeforeBound, BoundSign, InBound, AfterBound}
+use Rattle.opb_grammar.specs.declared.State.{State}
+use Rattle.opb_grammar.specs.declared.Next.{Next}
+use Rattle.opb_grammar.specs.declared.Next.the-variants as next
+use Rattle.opb_grammar.specs.Grammar.{bytes-limit, step, cut-off, ends, begins, long-fault, v-fault, c-fault, variable-fault}
 use Rattle.opb_bytes.specs.States.{fixed}
 use Rattle.opb_text.specs.Text.{Constraint, Reading, taken, refused, term-of, constraint-of, turn, closing, go, reading}
 use Rattle.opb_text.specs.Limits.{Limits}

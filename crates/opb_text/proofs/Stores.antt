@@ -10,7 +10,7 @@ use lib.Seq.{length-take-le, take-all, take-at, drop-append-add, drop-drop, getD
 use lib.IntN.{ℤ, pos}
 use mir.Syntax.{w64}
 use mir.Val.{SFits, toZ, ofZ}
-use Rattle.opb_states.specs.declared.State.{State}
+use Rattle.opb_grammar.specs.declared.State.{State}
 use Rattle.opb_text.specs.States.{both, copied}
 use Rattle.opb_text.proofs.Signs.{back}
 

@@ -2,7 +2,7 @@
 use mathlib.Core.List.{List}
 use Prim.Native.Nat.{ℕ, suc, _+_, _≤_}
 use lib.ListN.{length}
-use Rattle.opb_states.specs.States.{atoms-limit, sentences-limit, entries-limit}
+use Rattle.opb_grammar.specs.Grammar.{atoms-limit, sentences-limit, entries-limit}
 use Rattle.opb_text.specs.Text.{Constraint, rows-from, all-entries}
 
 pub record Limits (v : ℕ) (cs : List Constraint) : Type 0 where

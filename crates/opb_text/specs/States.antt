@@ -8,9 +8,8 @@ use lib.Seq.{sets, slice}
 use lib.IntN.{ℤ}
 use lib.Dec.{eqb, ltb}
 use Rattle.columns.specs.Columns.{Columns, columns}
-use Rattle.opb_states.specs.declared.State.{State}
-use Rattle.opb_states.specs.States.{size-limit}
-use Rattle.opb_bytes.specs.Grammar.{ends}
+use Rattle.opb_grammar.specs.declared.State.{State}
+use Rattle.opb_grammar.specs.Grammar.{size-limit, ends}
 use Rattle.opb_text.specs.declared.Read.{Read}
 use Rattle.opb_text.specs.Text.{signed-of, reading, nothing-read, read-of, sentence-room, entry-room}
 

@@ -8,11 +8,11 @@ use lib.IntN.{ℤ, pos, negℤ}
 use lib.Dec.{eqb, ltb}
 use Rattle.meaning.specs.Meaning.{Entry}
 use Rattle.columns.specs.Columns.{Columns, columns, Written}
-use Rattle.opb_states.specs.declared.Number.{Number}
-use Rattle.opb_states.specs.declared.State.{State}
-use Rattle.opb_states.specs.declared.Next.{Next}
-use Rattle.opb_states.specs.declared.Next.the-variants as next
-use Rattle.opb_bytes.specs.Grammar.{bytes-limit, step, ends, begins}
+use Rattle.opb_grammar.specs.declared.Number.{Number}
+use Rattle.opb_grammar.specs.declared.State.{State}
+use Rattle.opb_grammar.specs.declared.Next.{Next}
+use Rattle.opb_grammar.specs.declared.Next.the-variants as next
+use Rattle.opb_grammar.specs.Grammar.{bytes-limit, step, ends, begins}
 use Rattle.opb_text.specs.declared.Read.{Read}
 
 -- ---- what is read

@@ -1,7 +1,7 @@
 // OPB text into load's columns, as document 01 lays it down: the automaton of `opb_bytes` first decides the whole text, and then fills.
-use opb_states::Next;
-use opb_states::Number;
-use opb_states::State;
+use opb_grammar::Next;
+use opb_grammar::Number;
+use opb_grammar::State;
 ghost use mathlib.Core.Path.{_≡_};
 ghost use mathlib.Core.Bool.{cond};
 ghost use Prim.Native.Nat.{_+_, _<_, _≤_, min};
@@ -9,7 +9,7 @@ ghost use lib.ListN.{length, set};
 ghost use lib.Seq.{sets, slice};
 ghost use lib.IntN.{pos};
 ghost use Rattle.columns.specs.Columns.{columns};
-ghost use Rattle.opb_states.specs.States.{size-limit};
+ghost use Rattle.opb_grammar.specs.Grammar.{size-limit};
 ghost use Rattle.opb_text.specs.Text.{reading, read-of, result-of, signed-of, nothing-read, Reads};
 ghost use Rattle.opb_text.specs.States.{answer-at, Decided, both, first-row, copied, with-rows, Room};
 

@@ -5,11 +5,11 @@ use Prim.Native.Nat.{ℕ}
 use borrow.Author.Needs.{needs}
 use types.Run.{OneOf, miss}
 use denote.Enum.Declared.{tagOf}
-use Rattle.opb_states.specs.declared.Phase.{Phase}
-use Rattle.opb_states.proofs.Phase.{the-type}
-use Rattle.opb_states.specs.declared.Phase.the-variants.{Opening, BeforeV, InV, Middle, BeforeC, InC, AfterReturn, LineStart, Between, Comment, WeightSign, InWeight, BeforeX, BeforeVariable, InVariable, AfterTerm, AfterGreater, AfterRelation, BeforeBound, BoundSign, InBound, AfterBound}
-use Rattle.opb_states.specs.declared.State.{State}
-use Rattle.opb_bytes.specs.Grammar.{ends, cut-off}
+use Rattle.opb_grammar.specs.declared.Phase.{Phase}
+use Rattle.opb_grammar.proofs.Phase.{the-type}
+use Rattle.opb_grammar.specs.declared.Phase.the-variants.{Opening, BeforeV, InV, Middle, BeforeC, InC, AfterReturn, LineStart, Between, Comment, WeightSign, InWeight, BeforeX, BeforeVariable, InVariable, AfterTerm, AfterGreater, AfterRelation, BeforeBound, BoundSign, InBound, AfterBound}
+use Rattle.opb_grammar.specs.declared.State.{State}
+use Rattle.opb_grammar.specs.Grammar.{ends, cut-off}
 use Rattle.opb_bytes.proofs.ends.Statement.{statement}
 use Rattle.opb_bytes.proofs.ends.Tie as tie
 

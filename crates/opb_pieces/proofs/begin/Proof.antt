@@ -1,7 +1,7 @@
 -- One return for each test, in the order of the definition.
 use borrow.Author.Needs.{needs}
 use borrow.Author.Tests.{eq-eqb, ne-eqb}
-use Rattle.opb_pieces.specs.Pieces.{begin}
+use Rattle.opb_grammar.specs.Grammar.{begin}
 use Rattle.opb_pieces.proofs.begin.Statement.{statement}
 use Rattle.opb_pieces.proofs.begin.Tie as tie
 

@@ -3,7 +3,7 @@ use mathlib.Core.Path.{sym, _∙_}
 use native.Mathlib.Numerals.{add-one}
 use borrow.Author.Needs.{needs}
 use borrow.Author.Tests.{eq-eqb, ne-eqb}
-use Rattle.opb_pieces.specs.Pieces.{expect}
+use Rattle.opb_grammar.specs.Grammar.{expect}
 use Rattle.opb_pieces.proofs.expect.Statement.{statement}
 use Rattle.opb_pieces.proofs.expect.Tie as tie
 

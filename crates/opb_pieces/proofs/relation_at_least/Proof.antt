@@ -3,7 +3,7 @@ use Prim.Native.Nat.{_+_}
 use native.Mathlib.Omega.{arith}
 use borrow.Author.Needs.{needs}
 use borrow.Author.Tests.{le-leb, lt-leb}
-use Rattle.opb_pieces.specs.Pieces.{relation-at-least}
+use Rattle.opb_grammar.specs.Grammar.{relation-at-least}
 use Rattle.opb_pieces.proofs.relation_at_least.Statement.{statement}
 use Rattle.opb_pieces.proofs.relation_at_least.Tie as tie
 

@@ -4,7 +4,7 @@ use Prim.Native.Nat.{_+_}
 use native.Mathlib.Omega.{arith}
 use borrow.Author.Needs.{needs}
 use borrow.Author.Tests.{le-leb, lt-leb, leb-true, not-true, not-false}
-use Rattle.opb_pieces.specs.Pieces.{relation-equal}
+use Rattle.opb_grammar.specs.Grammar.{relation-equal}
 use Rattle.opb_pieces.proofs.relation_equal.Statement.{statement}
 use Rattle.opb_pieces.proofs.relation_equal.Tie as tie
 

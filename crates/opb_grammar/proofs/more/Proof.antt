@@ -1,8 +1,8 @@
 -- Size, digits and sign, each as its callee says.
 use borrow.Author.Needs.{needs}
-use Rattle.opb_states.specs.States.{more}
-use Rattle.opb_states.proofs.more.Statement.{statement}
-use Rattle.opb_states.proofs.more.Tie as tie
+use Rattle.opb_grammar.specs.Grammar.{more}
+use Rattle.opb_grammar.proofs.more.Statement.{statement}
+use Rattle.opb_grammar.proofs.more.Tie as tie
 
 returns : tie.Need-returns
 unfolding more

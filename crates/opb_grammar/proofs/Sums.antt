@@ -5,8 +5,8 @@ use Prim.Native.Nat.{ℕ, _+_, _-_, _≤_, _<_}
 use native.Mathlib.Omega.{arith}
 use lib.Dec.{leb, ltb}
 use borrow.Author.Tests.{leb-true, leb-false, le-leb, lt-leb}
-use Rattle.opb_states.specs.declared.State.{State}
-use Rattle.opb_states.specs.States.{variable-fault}
+use Rattle.opb_grammar.specs.declared.State.{State}
+use Rattle.opb_grammar.specs.Grammar.{variable-fault}
 
 by-case : (a b l : ℕ) → a ≤ l → (t : Bool) → leb b (l - a) ≡ t → t ≡ leb (a + b) l
 by-case a b l h true e = sym (le-leb (a + b) l (omega (arith, leb-true b (l - a) e)))

@@ -1,8 +1,8 @@
 -- One return for each test, in the order of the definition.
 use borrow.Author.Tests.{lt-ltb, le-ltb, le-leb, lt-leb}
-use Rattle.opb_states.specs.States.{variable-fault}
-use Rattle.opb_states.proofs.variable_fault.Statement.{statement}
-use Rattle.opb_states.proofs.variable_fault.Tie as tie
+use Rattle.opb_grammar.specs.Grammar.{variable-fault}
+use Rattle.opb_grammar.proofs.variable_fault.Statement.{statement}
+use Rattle.opb_grammar.proofs.variable_fault.Tie as tie
 
 returns : tie.Need-returns
 unfolding variable-fault

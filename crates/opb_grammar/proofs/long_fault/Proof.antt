@@ -1,8 +1,8 @@
 -- One return for each test, in the order of the definition.
 use borrow.Author.Tests.{le-leb, lt-leb}
-use Rattle.opb_states.specs.States.{long-fault}
-use Rattle.opb_states.proofs.long_fault.Statement.{statement}
-use Rattle.opb_states.proofs.long_fault.Tie as tie
+use Rattle.opb_grammar.specs.Grammar.{long-fault}
+use Rattle.opb_grammar.proofs.long_fault.Statement.{statement}
+use Rattle.opb_grammar.proofs.long_fault.Tie as tie
 
 returns : tie.Need-returns
 unfolding long-fault

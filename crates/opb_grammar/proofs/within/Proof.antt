@@ -3,9 +3,9 @@ use mathlib.Core.Path.{sym}
 use Prim.Native.Nat.{_+_}
 use native.Mathlib.Omega.{arith}
 use borrow.Author.Tests.{lt-leb}
-use Rattle.opb_states.proofs.Sums.{within-is}
-use Rattle.opb_states.proofs.within.Statement.{statement}
-use Rattle.opb_states.proofs.within.Tie as tie
+use Rattle.opb_grammar.proofs.Sums.{within-is}
+use Rattle.opb_grammar.proofs.within.Statement.{statement}
+use Rattle.opb_grammar.proofs.within.Tie as tie
 
 returns : tie.Need-returns
 returns c = sym (lt-leb (c .before .args .a + c .before .args .b) (c .before .args .limit) (omega arith))

@@ -1,23 +1,23 @@
 -- Each arm is the definition's clause for its phase.
 use mathlib.Core.Path.{_≡_, sym, _∙_, ap, subst}
 use Prim.Native.Nat.{ℕ, _<_}
-use Rattle.opb_states.specs.declared.Phase.{Phase}
-use Rattle.opb_states.specs.declared.State.{State}
-use Rattle.opb_states.specs.declared.Next.{Next}
-use Rattle.opb_phases.specs.Phases.{place}
+use Rattle.opb_grammar.specs.declared.Phase.{Phase}
+use Rattle.opb_grammar.specs.declared.State.{State}
+use Rattle.opb_grammar.specs.declared.Next.{Next}
+use Rattle.opb_grammar.specs.Grammar.{transition}
 use Rattle.opb_bytes.specs.States.{Sound, fixed}
-use Rattle.opb_bytes.proofs.place.Statement.{statement}
-use Rattle.opb_bytes.proofs.place.Tie as tie
+use Rattle.opb_bytes.proofs.transition.Statement.{statement}
+use Rattle.opb_bytes.proofs.transition.Tie as tie
 
-placed : (s : State) (b k : ℕ) {p : Phase} {r : Next} → s .phase ≡ p → r ≡ place p s b k → r ≡ place (s .phase) s b k
-placed s b k e h = h ∙ ap (λ (p : Phase). place p s b k) (sym e)
+placed : (s : State) (b k : ℕ) {p : Phase} {r : Next} → s .phase ≡ p → r ≡ transition p s b k → r ≡ transition (s .phase) s b k
+placed s b k e h = h ∙ ap (λ (p : Phase). transition p s b k) (sym e)
 
 matched-in : {s : State} {p : Phase} → Sound s → s .phase ≡ p → s .matched < fixed p
 matched-in {s} w e = subst (λ (p : Phase). s .matched < fixed p) e (w .matched)
 
-pub place-spec : {M : Type 1} → statement M
-unfolding place
-place-spec =
+pub transition-spec : {M : Type 1} → statement M
+unfolding transition
+transition-spec =
     tie.close
     (tie.spec
     (λ c. c .match .keys1) (λ c κs. matched-in (c .before .before .pre) (c .enum-told .given .1)) (λ c. c .match .keys2) (λ c κs. tt)

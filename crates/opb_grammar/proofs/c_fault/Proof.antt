@@ -1,9 +1,9 @@
 -- One return for each test, in the order of the definition.
 use mathlib.Core.Path.{sym, _∙_}
 use borrow.Author.Needs.{needs}
-use Rattle.opb_states.specs.States.{c-fault}
-use Rattle.opb_states.proofs.c_fault.Statement.{statement}
-use Rattle.opb_states.proofs.c_fault.Tie as tie
+use Rattle.opb_grammar.specs.Grammar.{c-fault}
+use Rattle.opb_grammar.proofs.c_fault.Statement.{statement}
+use Rattle.opb_grammar.proofs.c_fault.Tie as tie
 
 returns : tie.Need-returns
 unfolding c-fault

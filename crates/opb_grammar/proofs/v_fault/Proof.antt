@@ -1,9 +1,9 @@
 -- One return for each test, in the order of the definition.
 use borrow.Author.Needs.{needs}
 use borrow.Author.Tests.{eq-eqb, ne-eqb}
-use Rattle.opb_states.specs.States.{v-fault}
-use Rattle.opb_states.proofs.v_fault.Statement.{statement}
-use Rattle.opb_states.proofs.v_fault.Tie as tie
+use Rattle.opb_grammar.specs.Grammar.{v-fault}
+use Rattle.opb_grammar.proofs.v_fault.Statement.{statement}
+use Rattle.opb_grammar.proofs.v_fault.Tie as tie
 
 returns : tie.Need-returns
 unfolding v-fault

@@ -3,7 +3,7 @@ use types::Limits;
 ghost use mathlib.Core.Path.{_≡_};
 ghost use Prim.Native.Nat.{_+_, _*_, _-_, _<_, min};
 ghost use lib.Dec.{leb};
-ghost use Rattle.opb_states.specs.States as states;
+ghost use Rattle.opb_grammar.specs.Grammar as grammar;
 
 // What has been read, and so what may come next.
 pub enum Phase {
@@ -104,7 +104,7 @@ fn value(b: u8) -> u64
 // Ten times the size and a digit, told up to 10^18.
 fn grown(size: u64, digit: u64) -> u64
     requires { ⌜ digit < 1000 ⌝ }
-    ensures { λ r. ⌜ r ≡ min (size * 10 + digit) states.size-limit ⌝ }
+    ensures { λ r. ⌜ r ≡ min (size * 10 + digit) grammar.size-limit ⌝ }
 {
     if size >= GREATEST / 10 {
         return GREATEST;
@@ -127,7 +127,7 @@ fn counted(digits: u64) -> u64
 }
 
 pub fn more(n: Number, b: u8) -> Number
-    ensures { λ r. ⌜ r ≡ states.more n b ⌝ }
+    ensures { λ r. ⌜ r ≡ grammar.more n b ⌝ }
 {
     Number {
         size: grown(n.size, value(b)),
@@ -138,7 +138,7 @@ pub fn more(n: Number, b: u8) -> Number
 
 // A number of which no digit has been read.
 pub fn sign(minus: bool) -> Number
-    ensures { λ r. ⌜ r ≡ states.signed minus ⌝ }
+    ensures { λ r. ⌜ r ≡ grammar.signed minus ⌝ }
 {
     Number {
         size: 0,
@@ -150,7 +150,7 @@ pub fn sign(minus: bool) -> Number
 // ---- states
 
 fn at(s: State, p: Phase) -> State
-    ensures { λ r. ⌜ r ≡ states.at s p ⌝ }
+    ensures { λ r. ⌜ r ≡ grammar.at s p ⌝ }
 {
     let number = s.number;
     let weight = s.weight;
@@ -168,7 +168,7 @@ fn at(s: State, p: Phase) -> State
 }
 
 pub fn matching(s: State, p: Phase, matched: u64) -> State
-    ensures { λ r. ⌜ r ≡ states.matching s p matched ⌝ }
+    ensures { λ r. ⌜ r ≡ grammar.matching s p matched ⌝ }
 {
     let number = s.number;
     let weight = s.weight;
@@ -186,7 +186,7 @@ pub fn matching(s: State, p: Phase, matched: u64) -> State
 }
 
 fn numbering(s: State, p: Phase, number: Number) -> State
-    ensures { λ r. ⌜ r ≡ states.numbering s p number ⌝ }
+    ensures { λ r. ⌜ r ≡ grammar.numbering s p number ⌝ }
 {
     let weight = s.weight;
     let sizes = s.sizes;
@@ -204,7 +204,7 @@ fn numbering(s: State, p: Phase, number: Number) -> State
 
 // The number in hand is the weight.
 pub fn weighing(s: State, p: Phase) -> State
-    ensures { λ r. ⌜ r ≡ states.weighing s p ⌝ }
+    ensures { λ r. ⌜ r ≡ grammar.weighing s p ⌝ }
 {
     let number = s.number;
     let sizes = s.sizes;
@@ -221,7 +221,7 @@ pub fn weighing(s: State, p: Phase) -> State
 }
 
 pub fn sizing(s: State, p: Phase, sizes: Sizes) -> State
-    ensures { λ r. ⌜ r ≡ states.sizing s p sizes ⌝ }
+    ensures { λ r. ⌜ r ≡ grammar.sizing s p sizes ⌝ }
 {
     let number = s.number;
     let weight = s.weight;
@@ -238,7 +238,7 @@ pub fn sizing(s: State, p: Phase, sizes: Sizes) -> State
 }
 
 pub fn counting(s: State, p: Phase, equal: bool, counts: Counts) -> State
-    ensures { λ r. ⌜ r ≡ states.counting s p equal counts ⌝ }
+    ensures { λ r. ⌜ r ≡ grammar.counting s p equal counts ⌝ }
 {
     let number = s.number;
     let weight = s.weight;
@@ -257,7 +257,7 @@ pub fn counting(s: State, p: Phase, equal: bool, counts: Counts) -> State
 // ---- faults of a number that has ended, 0 for none
 
 pub fn long_fault(s: State) -> u64
-    ensures { λ r. ⌜ r ≡ states.long-fault s ⌝ }
+    ensures { λ r. ⌜ r ≡ grammar.long-fault s ⌝ }
 {
     let n = s.number;
     if n.digits < 19 {
@@ -267,7 +267,7 @@ pub fn long_fault(s: State) -> u64
 }
 
 pub fn v_fault(s: State) -> u64
-    ensures { λ r. ⌜ r ≡ states.v-fault s ⌝ }
+    ensures { λ r. ⌜ r ≡ grammar.v-fault s ⌝ }
 {
     let n = s.number;
     if n.size == 0 {
@@ -277,7 +277,7 @@ pub fn v_fault(s: State) -> u64
 }
 
 pub fn c_fault(s: State) -> u64
-    ensures { λ r. ⌜ r ≡ states.c-fault s ⌝ }
+    ensures { λ r. ⌜ r ≡ grammar.c-fault s ⌝ }
 {
     let n = s.number;
     let sizes = s.sizes;
@@ -288,7 +288,7 @@ pub fn c_fault(s: State) -> u64
 }
 
 pub fn variable_fault(s: State) -> u64
-    ensures { λ r. ⌜ r ≡ states.variable-fault s ⌝ }
+    ensures { λ r. ⌜ r ≡ grammar.variable-fault s ⌝ }
 {
     let n = s.number;
     let sizes = s.sizes;
@@ -305,13 +305,13 @@ pub fn variable_fault(s: State) -> u64
 // ---- answers of a step
 
 pub fn moved(s: State, p: Phase) -> Next
-    ensures { λ r. ⌜ r ≡ Next.More (states.at s p) ⌝ }
+    ensures { λ r. ⌜ r ≡ Next.More (grammar.at s p) ⌝ }
 {
     Next::More(at(s, p))
 }
 
 pub fn numbered(s: State, p: Phase, number: Number) -> Next
-    ensures { λ r. ⌜ r ≡ Next.More (states.numbering s p number) ⌝ }
+    ensures { λ r. ⌜ r ≡ Next.More (grammar.numbering s p number) ⌝ }
 {
     Next::More(numbering(s, p, number))
 }
