@@ -30,17 +30,14 @@ use Rattle.whole.proofs.Frame.{drop-same}
 use Rattle.whole.proofs.Theories.{SameTheory, theory-behind, rule-stays, sentence-stays, rules-stay, places-stay}
 use Rattle.whole.proofs.Trails.{header-stays, trail-stays}
 use Rattle.refresh.proofs.Matching.{renewed-matches}
-use Rattle.load.specs.Stored.{AllStored}
+use Rattle.store.specs.Stored.{AllStored}
 use Rattle.load.specs.Load.{Loaded}
-use Rattle.load.proofs.Storing.{Small, small, written-is}
+use Rattle.store.proofs.Storing.{Small, small, written-is}
 
 -- ---- word 0 of n atoms and S sentences, an empty trail and level 0
 
 sentences-field : (x n S : ℕ) → n ≤ 4096 → S ≤ 1024 → x ≡ n + 65536 * S → x / 65536 % 65536 ≡ S
-sentences-field x n S a b e = let q : x / 65536 ≡ S = omega arith in ap {A = ℕ} (λ y. y % 65536) q ∙ low S b
-  where
-    low : (S : ℕ) → S ≤ 1024 → S % 65536 ≡ S
-    low S b = omega arith
+sentences-field x n S a b e = let q : x / 65536 ≡ S = omega arith in rw q (omega arith)
 
 length-field : (x n S : ℕ) → n ≤ 4096 → S ≤ 1024 → x ≡ n + 65536 * S → x / 4294967296 % 65536 ≡ 0
 length-field x n S a b e = let q : x / 4294967296 ≡ 0 = omega arith in ap {A = ℕ} (λ y. y % 65536) q
@@ -62,8 +59,7 @@ module _ (lim : Limits) (w w1 : List ℕ) (n : ℕ) (c : Columns) (fit : Fitting
 
   before-is : (s : ℕ) → s ≤ S → entries-before w1 n s ≡ sum-first (c .counts) s
   before-is zero l = none-before w1 n ∙ sym (sum-none (c .counts))
-  before-is (suc s) l =
-      ap {A = ℕ} (entries-before w1 n) (sym (add-one s)) ∙ one-more w1 n s
+  before-is (suc s) l = ap {A = ℕ} (entries-before w1 n) (sym (add-one s)) ∙ one-more w1 n s
       ∙ ap₂ {A = ℕ} {B = ℕ} (λ a b. a + b) (before-is s (omega arith)) (counts-are s l)
       ∙ sym (sum-step (c .counts) s) ∙ ap {A = ℕ} (sum-first (c .counts)) (add-one s)
 
@@ -174,13 +170,12 @@ module _ (lim : Limits) (w w1 : List ℕ) (n : ℕ) (c : Columns) (fit : Fitting
 
     whole : Whole lim w2 (counters 0 0)
     unfolding rows-from
-    whole = joined-at lim w2 0 0 n S atoms-new sentences-new header-new
-        (record {
-          trail-ok = trail-stays w1 w2 n (done .front) 0 0 (omega arith) trail-ok;
-          places = places-stay same lim (omega (arith, done .size, places .room)) places;
-          sentences = λ s h. record { words = sentence-stays same lim s h (sentence-ok s h); matching = matches s h };
-          reasons = λ i l. absurd (omega arith);
-        })
+    whole = joined-at lim w2 0 0 n S atoms-new sentences-new header-new (record {
+      trail-ok = trail-stays w1 w2 n (done .front) 0 0 (omega arith) trail-ok;
+      places = places-stay same lim (omega (arith, done .size, places .room)) places;
+      sentences = λ s h. record { words = sentence-stays same lim s h (sentence-ok s h); matching = matches s h };
+      reasons = λ i l. absurd (omega arith);
+    })
 
     rows-new : rows-of w2 ≡ []
     unfolding rows-from
@@ -190,9 +185,7 @@ module _ (lim : Limits) (w w1 : List ℕ) (n : ℕ) (c : Columns) (fit : Fitting
     loaded = record {
       whole = whole;
       atoms = atoms-new;
-      theory =
-          ap₂ {A = ℕ} {B = ℕ} (λ m k. rules-from w2 m k 0 k) atoms-new sentences-new
-          ∙ rules-stay same 0 S (omega arith) ∙ rules-are 0 S (omega arith);
+      theory = ap₂ {A = ℕ} {B = ℕ} (λ m k. rules-from w2 m k 0 k) atoms-new sentences-new ∙ rules-stay same 0 S (omega arith) ∙ rules-are 0 S (omega arith);
       rows = rows-new;
       level = header-new .level-is;
       size = done .size ∙ st .size;

@@ -1,8 +1,3 @@
-pub mod Parts
-pub mod Puts
-pub mod Frames
-pub mod Rules
-pub mod Storing
 pub mod Ends
 pub mod Examples
 pub mod Base

@@ -94,8 +94,8 @@ module _ {part : List ℕ} {kind : ℕ} {ws ls : List ℤ} (m : Mergeable part k
   fits-at : T (weight-fits (kind-of kind) (getD ws i (pos 0)))
   fits-at = at-place (λ e. T (weight-fits (kind-of kind) (e .weight))) (m .weights)
 
-  pub weight-small : SFits w64 (getD ws i (pos 0)) → natAbs (back (getD ws i (pos 0))) ≤ 1000000000
-  weight-small f = rw (toZ-ofZ w64 (getD ws i (pos 0)) f) (fits-size (kind-of kind) (getD ws i (pos 0)) fits-at)
+  pub weight-small : SFits w64 (getD ws i (pos 0)) → natAbs (back (getD ws i (pos 0))) ≤ 1000000000000000000
+  weight-small f = rw (toZ-ofZ w64 (getD ws i (pos 0)) f) (omega (arith, fits-size (kind-of kind) (getD ws i (pos 0)) fits-at))
 
   literal-range : (1 ≤ atom (getD ls i (pos 0))) × (atom (getD ls i (pos 0)) ≤ 4096)
   literal-range = at-place (λ e. (1 ≤ place e) × (place e ≤ 4096)) (m .literals)

@@ -5,7 +5,7 @@ ghost use mathlib.Core.Bool.{true, false};
 ghost use Prim.Native.Nat.{_+_, _*_, _<_, _≤_};
 ghost use lib.IntN.{natAbs};
 ghost use lib.ListN.{length, getD, set};
-ghost use Rattle.types.specs.Limits.{weight-limit, widest};
+ghost use Rattle.types.specs.Limits.{bound-limit, widest};
 ghost use Rattle.numbers.specs.Words.{bias, unbias, literal-word};
 ghost use Rattle.meaning.specs.Meaning.{mixes};
 ghost use Rattle.meaning.specs.Merge.{joined};
@@ -37,8 +37,9 @@ pub struct Turned {
     pub freed: u64,
 }
 
-fn weight_word(w: i64) -> u64
-    requires { ⌜ natAbs w ≤ weight-limit ⌝ }
+// The word of a weight or a bound.
+pub fn number_word(w: i64) -> u64
+    requires { ⌜ natAbs w ≤ bound-limit ⌝ }
     ensures { λ r. ⌜ r ≡ bias w ⌝ }
 {
     let size = signed::size(w);
@@ -187,7 +188,7 @@ fn gather(part: &mut [u64], kind: u64, weights: &[i64], literals: &[i64]) -> Mer
     };
     let mut i = 0;
     while i < weights.len() {
-        let x = weight_word(weights[i]);
+        let x = number_word(weights[i]);
         let l = literal_word(literals[i]);
         i += 1;
         m = add(part, &mut table, &mut seen, kind, x, l, m);

@@ -25,7 +25,7 @@ returns c = record { answer-is = c .before .refusal .ensures; refused = λ _. re
 store-all-requires : tie.Need-store-all-requires
 store-all-requires c κs =
     let b = c .before .before .before .before .before .before .before .before in
-    record { lim = b .args .lim; fitting = b .pre; unrefused = ap (λ (a : Answer). a .code) (sym (c .before .before .refusal .ensures)) ∙ c .before .if1 .left }
+    record { lim = b .args .lim; fitting = b .pre; accepted = ok (c .before) }
 
 refresh-requires : tie.Need-refresh-requires
 refresh-requires c κs =
@@ -46,7 +46,6 @@ returns-2 c =
     }
 
 pub load-within-spec : {M : Type 1} → statement M
-load-within-spec =
-    tie.close
+load-within-spec = tie.close
     (tie.spec
     (λ c κs. search needs) returns store-all-requires (λ c. search needs) refresh-requires (λ c. search needs) returns-2)

@@ -26,25 +26,25 @@ abbrev μ-loop : tie.MeasureT-loop
 loop-holds : tie.Need-loop-holds Inv-loop μ-loop
 loop-holds c = (omega arith, refl, gathered-none (c .before .args .kind) (paired (c .before .args .weights .now) (c .before .args .literals .now)) (c .before .args .part .now) (replicate 8194 0) (replicate 8194 false) refl refl)
 
-weight-word-requires : tie.Need-weight-word-requires Inv-loop μ-loop
-weight-word-requires c κs = weight-small (c .before .before .before .before .pre) (c .before .before .loop .i) (omega arith) (record { sfits = c .weight-word-arg .given })
+number-word-requires : tie.Need-number-word-requires Inv-loop μ-loop
+number-word-requires c κs = weight-small (c .before .before .before .before .pre) (c .before .before .loop .i) (omega arith) (record { sfits = c .number-word-arg .given })
 
 literal-word-requires : tie.Need-literal-word-requires Inv-loop μ-loop
 literal-word-requires c κs = literal-small (c .before .before .before .before .before .before .pre) (c .before .before .before .before .loop .i) (omega arith) (record { sfits = c .literal-word-arg .given })
 
 -- the two words are those of entry i, which may be taken
-weight-known : (c : tie.After-literal-word Inv-loop μ-loop) → c .before .before .weight-word .result ≡ bias (getD (c .before .before .before .before .before .before .before .args .weights .now) (c .before .before .before .before .before .loop .i) (pos 0))
-weight-known c = weight-is (getD (c .before .before .before .before .before .before .before .args .weights .now) (c .before .before .before .before .before .loop .i) (pos 0)) (record { sfits = c .before .before .before .weight-word-arg .given }) (c .before .before .weight-word .ensures)
+weight-known : (c : tie.After-literal-word Inv-loop μ-loop) → c .before .before .number-word .result ≡ bias (getD (c .before .before .before .before .before .before .before .args .weights .now) (c .before .before .before .before .before .loop .i) (pos 0))
+weight-known c = weight-is (getD (c .before .before .before .before .before .before .before .args .weights .now) (c .before .before .before .before .before .loop .i) (pos 0)) (record { sfits = c .before .before .before .number-word-arg .given }) (c .before .before .number-word .ensures)
 
 literal-known : (c : tie.After-literal-word Inv-loop μ-loop) → c .literal-word .result ≡ literal-word (getD (c .before .before .before .before .before .before .before .args .literals .now) (c .before .before .before .before .before .loop .i) (pos 0))
 literal-known c = literal-is (getD (c .before .before .before .before .before .before .before .args .literals .now) (c .before .before .before .before .before .loop .i) (pos 0)) (record { sfits = c .before .literal-word-arg .given }) (c .literal-word .ensures)
 
 may-take : (c : tie.After-literal-word Inv-loop μ-loop)
-    → Takeable (c .before .before .before .before .before .before .before .args .kind) (take (c .before .before .before .before .before .loop .i) (paired (c .before .before .before .before .before .before .before .args .weights .now) (c .before .before .before .before .before .before .before .args .literals .now))) (c .before .before .weight-word .result) (c .literal-word .result) (length (c .before .before .before .before .before .loop .part))
+    → Takeable (c .before .before .before .before .before .before .before .args .kind) (take (c .before .before .before .before .before .loop .i) (paired (c .before .before .before .before .before .before .before .args .weights .now) (c .before .before .before .before .before .before .before .args .literals .now))) (c .before .before .number-word .result) (c .literal-word .result) (length (c .before .before .before .before .before .loop .part))
 may-take c = takeable (c .before .before .before .before .before .before .before .pre) (c .before .before .before .before .before .loop .i) (omega arith) (weight-known c) (literal-known c) (length (c .before .before .before .before .before .loop .part)) (c .before .before .before .before .before .loop .inv .1)
 
 next-taken : (c : tie.After-literal-word Inv-loop μ-loop)
-    → take (c .before .before .before .before .before .loop .i + 1) (paired (c .before .before .before .before .before .before .before .args .weights .now) (c .before .before .before .before .before .before .before .args .literals .now)) ≡ (take (c .before .before .before .before .before .loop .i) (paired (c .before .before .before .before .before .before .before .args .weights .now) (c .before .before .before .before .before .before .before .args .literals .now))) ++ (entry-of (c .before .before .weight-word .result) (c .literal-word .result) ∷ [])
+    → take (c .before .before .before .before .before .loop .i + 1) (paired (c .before .before .before .before .before .before .before .args .weights .now) (c .before .before .before .before .before .before .before .args .literals .now)) ≡ (take (c .before .before .before .before .before .loop .i) (paired (c .before .before .before .before .before .before .before .args .weights .now) (c .before .before .before .before .before .before .before .args .literals .now))) ++ (entry-of (c .before .before .number-word .result) (c .literal-word .result) ∷ [])
 next-taken c = one-more (c .before .before .before .before .before .before .before .pre) (c .before .before .before .before .before .loop .i) (omega arith) (weight-known c) (literal-known c)
 
 add-requires : tie.Need-add-requires Inv-loop μ-loop
@@ -59,6 +59,6 @@ returns c = rw (take-all (c .before .loop .i) (paired (c .before .before .before
 pub gather-spec : {M : Type 1} → statement M
 gather-spec = tie.close
     (tie.spec
-    Inv-loop μ-loop loop-holds (λ c. search needs) (λ c. search needs) weight-word-requires (λ c. search needs)
+    Inv-loop μ-loop loop-holds (λ c. search needs) (λ c. search needs) number-word-requires (λ c. search needs)
     (λ c. omega (arith, c .before .before .before .before .before .pre .same)) literal-word-requires (λ c. search needs) add-requires
     (λ c. search needs) loop-again (λ c. c .before .loop .inv .1) returns)

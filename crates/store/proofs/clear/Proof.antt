@@ -4,9 +4,9 @@ use borrow.Author.Needs.{needs}
 use Prim.Native.Nat.{_≤_, _-_}
 use native.Mathlib.Omega.{arith}
 use lib.ListN.{length-set}
-use Rattle.load.proofs.Puts.{Clearing, clear-none, clear-more, cleared}
-use Rattle.load.proofs.clear.Statement.{statement}
-use Rattle.load.proofs.clear.Tie as tie
+use Rattle.store.proofs.Puts.{Clearing, clear-none, clear-more, cleared}
+use Rattle.store.proofs.clear.Statement.{statement}
+use Rattle.store.proofs.clear.Tie as tie
 
 abbrev Inv-loop : tie.InvT-loop
 Inv-loop area₀ to first i₀ area i = (i ≤ to) × Clearing area₀ area i
@@ -30,8 +30,7 @@ returns : tie.Need-returns Inv-loop μ-loop
 returns c = cleared (c .before .before .args .area .now) _ (c .before .before .args .to) (c .before .before .args .first) (c .before .loop .i) (omega arith) (omega arith) (omega arith) (c .before .loop .inv .1)
 
 pub clear-spec : {M : Type 1} → statement M
-clear-spec =
-    tie.close
+clear-spec = tie.close
     (tie.spec
     Inv-loop μ-loop (λ c. search needs) loop-holds (λ c. search needs) slice-write-area-2 (λ c. search needs) (λ c. search needs) loop-again
     same-length returns)

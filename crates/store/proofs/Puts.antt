@@ -8,7 +8,7 @@ use native.Mathlib.Nat.{eq-or-lt-of-le}
 use lib.ListN.{length, set, length-set}
 use lib.Seq.{getD-set-same, getD-set-other}
 use Rattle.area.specs.Layout.{word}
-use Rattle.load.specs.Stored.{FourPut, Cleared}
+use Rattle.store.specs.Stored.{FourPut, Cleared}
 
 module _ (w : List ℕ) (at a b c d : ℕ) (room : at + 4 ≤ length w) where
   abbrev w1 : List ℕ
@@ -23,34 +23,20 @@ module _ (w : List ℕ) (at a b c d : ℕ) (room : at + 4 ≤ length w) where
   abbrev w4 : List ℕ
   w4 = set w3 (at + 3) d
 
-  size1 : length w1 ≡ length w
-  size1 = length-set w at a
-
-  size2 : length w2 ≡ length w
-  size2 = length-set w1 (at + 1) b ∙ size1
-
-  size3 : length w3 ≡ length w
-  size3 = length-set w2 (at + 2) c ∙ size2
-
-  -- a word that none of the four is
-  other : (i : ℕ) → (i ≡ at → ⊥) → (i ≡ at + 1 → ⊥) → (i ≡ at + 2 → ⊥) → (i ≡ at + 3 → ⊥) → word w4 i ≡ word w i
-  other i p q r s =
-      getD-set-other w3 (at + 3) i d 0 (λ e. omega arith) ∙ getD-set-other w2 (at + 2) i c 0 (λ e. omega arith)
-      ∙ getD-set-other w1 (at + 1) i b 0 (λ e. omega arith) ∙ getD-set-other w at i a 0 (λ e. omega arith)
+  -- a word that is not of those written behind it
+  behind : (i : ℕ) → i < at + 2 → word w4 i ≡ word w2 i
+  behind i l = getD-set-other w3 (at + 3) i d 0 (λ e. omega arith) ∙ getD-set-other w2 (at + 2) i c 0 (λ e. omega arith)
 
   pub four : FourPut w w4 at a b c d
   four = record {
-    size = length-set w3 (at + 3) d ∙ size3;
-    first =
-        getD-set-other w3 (at + 3) at d 0 (λ q. omega arith) ∙ getD-set-other w2 (at + 2) at c 0 (λ q. omega arith)
-        ∙ getD-set-other w1 (at + 1) at b 0 (λ q. omega arith) ∙ getD-set-same w at a 0 (omega arith);
-    second =
-        getD-set-other w3 (at + 3) (at + 1) d 0 (λ q. omega arith) ∙ getD-set-other w2 (at + 2) (at + 1) c 0 (λ q. omega arith)
-        ∙ getD-set-same w1 (at + 1) b 0 (omega (arith, size1));
-    third = getD-set-other w3 (at + 3) (at + 2) d 0 (λ q. omega arith) ∙ getD-set-same w2 (at + 2) c 0 (omega (arith, size2));
-    fourth = getD-set-same w3 (at + 3) d 0 (omega (arith, size3));
-    below = λ i l. other i (λ q. omega arith) (λ q. omega arith) (λ q. omega arith) (λ q. omega arith);
-    above = λ i l. other i (λ q. omega arith) (λ q. omega arith) (λ q. omega arith) (λ q. omega arith);
+    size = simp length-set;
+    first = behind at (omega arith) ∙ getD-set-other w1 (at + 1) at b 0 (λ q. omega arith) ∙ getD-set-same w at a 0 (omega arith);
+    second = behind (at + 1) (omega arith) ∙ getD-set-same w1 (at + 1) b 0 (simp length-set (omega arith));
+    third = getD-set-other w3 (at + 3) (at + 2) d 0 (λ q. omega arith) ∙ getD-set-same w2 (at + 2) c 0 (simp length-set (omega arith));
+    fourth = getD-set-same w3 (at + 3) d 0 (simp length-set (omega arith));
+    below = λ i l. behind i (omega arith) ∙ getD-set-other w1 (at + 1) i b 0 (λ q. omega arith) ∙ getD-set-other w at i a 0 (λ q. omega arith);
+    above = λ i l. getD-set-other w3 (at + 3) i d 0 (λ q. omega arith) ∙ getD-set-other w2 (at + 2) i c 0 (λ q. omega arith)
+        ∙ getD-set-other w1 (at + 1) i b 0 (λ q. omega arith) ∙ getD-set-other w at i a 0 (λ q. omega arith);
   }
 
 -- ---- clearing
@@ -71,11 +57,8 @@ clear-more w w′ i l s = record {
   low = omega arith;
   size = length-set w′ i 0 ∙ s .size;
   first = getD-set-other w′ i 0 0 0 (λ q. omega (arith, s .low)) ∙ s .first;
-  blank = λ j a b.
-      ⊎-elim {A = j ≡ i} {B = j < i}
-      (λ e. ap {A = ℕ} (word (set w′ i 0)) e ∙ getD-set-same w′ i 0 0 l)
-      (λ m. getD-set-other w′ i j 0 0 (λ q. omega arith) ∙ s .blank j a m)
-      (eq-or-lt-of-le (omega arith));
+  blank = λ j a b. ⊎-elim {A = j ≡ i} {B = j < i} (λ e. ap {A = ℕ} (word (set w′ i 0)) e ∙ getD-set-same w′ i 0 0 l)
+      (λ m. getD-set-other w′ i j 0 0 (λ q. omega arith) ∙ s .blank j a m) (eq-or-lt-of-le (omega arith));
   above = λ j a. getD-set-other w′ i j 0 0 (λ q. omega arith) ∙ s .above j (omega arith);
 }
 

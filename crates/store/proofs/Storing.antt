@@ -24,8 +24,8 @@ use Rattle.columns.proofs.Paired.{paired-length}
 use Rattle.columns.proofs.Shapes.{Inside, inside}
 use Rattle.columns.proofs.Walk.{part-is}
 use Rattle.columns.specs.Decides.{Accepted}
-use Rattle.load.specs.Stored.{Storable, Held, Stored, Cleared, AllStored}
-use Rattle.load.proofs.Frames.{held-kept}
+use Rattle.store.specs.Stored.{Storable, Held, Stored, Cleared, AllStored}
+use Rattle.store.proofs.Frames.{held-kept}
 
 -- ---- sentence s of the columns, as it is lent
 
@@ -139,11 +139,8 @@ module _ (lim : Limits) (words n : ℕ) (c : Columns) (fit : Fitting lim) (ok : 
         let next = sum-step (c .counts) k in
         let up = sum-upto (c .counts) (k + 1) s (omega arith) in
         let i = here s (sum-first (c .counts) s) low refl in
-        held-kept w w′ n S k (sum-first (c .counts) k) (column.written-at c k) (st .size)
-        (omega (arith, ok .enough, run .size, i .weights))
-        (λ j a b. st .below j (omega arith))
-        (λ j a b. st .between j (omega arith) (omega arith))
-        h
+        held-kept w w′ n S k (sum-first (c .counts) k) (column.written-at c k) (st .size) (omega (arith, ok .enough, run .size, i .weights))
+        (λ j a b. st .below j (omega arith)) (λ j a b. st .between j (omega arith) (omega arith)) h
 
     pub running-more : Running n c w0 w′ (s + 1) (from + getD (c .counts) s 0)
     running-more =
@@ -153,10 +150,8 @@ module _ (lim : Limits) (words n : ℕ) (c : Columns) (fit : Fitting lim) (ok : 
           size = st .size ∙ run .size;
           from-is = ap {A = ℕ} (λ k. k + getD (c .counts) s 0) (run .from-is) ∙ sym (i .next);
           front = λ j l. st .below j (omega arith) ∙ run .front j l;
-          each = λ k l.
-              ⊎-elim {A = k ≡ s} {B = k < s}
-              (λ q. subst (λ (j : ℕ). Held w′ n S j (sum-first (c .counts) j) (column.written-at c j)) (sym q) (st .held))
-              (λ q. kept k q)
+          each = λ k l. ⊎-elim {A = k ≡ s} {B = k < s}
+              (λ q. subst (λ (j : ℕ). Held w′ n S j (sum-first (c .counts) j) (column.written-at c j)) (sym q) (st .held)) (λ q. kept k q)
               (eq-or-lt-of-le (omega arith));
           rest = λ j l. st .above j (omega (arith, i .weights)) ∙ run .rest j l;
         }

@@ -20,29 +20,21 @@ use Rattle.columns.proofs.Paired.{paired-length}
 use Rattle.columns.proofs.Passing.{kind-known, side-known, entries-few, entry-atoms, entries-fit, entries-unmixed, written-product-within}
 use Rattle.columns.proofs.RuleWhole.{rule-whole}
 use Rattle.merge.specs.declared.Merged.{Merged}
-use Rattle.load.specs.Stored.{MergeAsked, MergedAt, FourPut, Storable, Stored}
-use Rattle.load.proofs.Parts.{slice-kept}
-use Rattle.load.proofs.Frames.{same-rule}
+use Rattle.store.specs.Stored.{MergeAsked, MergedAt, FourPut, Storable, Stored}
+use Rattle.store.proofs.Parts.{slice-kept}
+use Rattle.store.proofs.Frames.{same-rule}
 
 -- the constant's word, by kind
 constant-held : (k : Kind) (x : ℕ) (es : List Entry) → (T (mixes k) → unbias x ≡ merge k es .constant) → constant-of k x ≡ merge k es .constant
-constant-held sum x es h = h tt
-constant-held product x es h = refl
-constant-held count x es h = h tt
-constant-held maximum x es h = refl
-constant-held minimum x es h = refl
+constant-held k x es = elim k [ sum ↦ λ h. h tt | product ↦ λ h. refl | count ↦ λ h. h tt | maximum ↦ λ h. refl | minimum ↦ λ h. refl ]
 
 size-below : (z : ℤ) → natAbs z ≤ 1000000000000000000 → mag z < half
-size-below (pos n) h = omega arith
-size-below (negsuc n) h = omega arith
+size-below z = elim z [ pos n ↦ λ h. omega arith | negsuc n ↦ λ h. omega arith ]
 
 -- ---- the fields of the tag and of the counts
 
 side-field : (t kind side : ℕ) → kind ≤ 4 → side ≤ 1 → t ≡ kind + 8 * side + 16 → t / 8 % 2 ≡ side
-side-field t kind side k d e = let q : t / 8 ≡ side + 2 = omega arith in ap {A = ℕ} (λ y. y % 2) q ∙ two side d
-  where
-    two : (side : ℕ) → side ≤ 1 → (side + 2) % 2 ≡ side
-    two side d = omega arith
+side-field t kind side k d e = let q : t / 8 ≡ side + 2 = omega arith in rw q (omega arith)
 
 -- ---- storing one sentence
 
@@ -140,22 +132,15 @@ module _ (w : List ℕ) (n S s before head kind side : ℕ) (bound : ℤ) (ws ls
     start-is = ap {A = ℕ} (λ k. 4 * n + 8 * S + 2 * k) place-word
 
     entries-held : entries-of (entry-words w3 (entry-at w3 n S b) (merged-at w3 b)) ≡ merge (kind-of kind) (x .entries) .entries
-    entries-held =
-        ap {A = ℕ} (λ k. entries-of (entry-words w3 k (merged-at w3 b))) start-is
-        ∙ ap {A = ℕ} (λ k. entries-of (entry-words w3 at k)) merged-is
+    entries-held = ap {A = ℕ} (λ k. entries-of (entry-words w3 k (merged-at w3 b))) start-is ∙ ap {A = ℕ} (λ k. entries-of (entry-words w3 at k)) merged-is
         ∙ ap {A = List ℕ} entries-of (slice-kept w1 w3 at (at + 2 * r .count) (q .size ∙ p .size) (omega (arith, a .room, m .count, m .size)) (λ i l h. outside i (omega (arith, a .number))))
         ∙ m .entries
 
     rule-is : rule-at w3 n S b ≡ rule-of (sentence-of x)
-    rule-is =
-        same-rule head-word
-        (ap {A = ℕ} kind-of kind-is)
-        (ap {A = ℕ} side-of side-is)
+    rule-is = same-rule head-word (ap {A = ℕ} kind-of kind-is) (ap {A = ℕ} side-of side-is)
         (ap {A = ℕ} unbias bound-word ∙ unbias-of bound (size-below bound (small .bound-near)))
         (ap {A = ℕ} (λ k. constant-of (kind-of k) (word w3 (b + 3))) kind-is ∙ ap {A = ℕ} (constant-of (kind-of kind)) constant-word
-        ∙ constant-held (kind-of kind) (r .constant) (x .entries) (m .constant))
-        entries-held
-        (written-is ∙ sym length-is)
+        ∙ constant-held (kind-of kind) (r .constant) (x .entries) (m .constant)) entries-held (written-is ∙ sym length-is)
 
     pub stored : Stored w w3 n S s before x
     stored =

@@ -1,12 +1,12 @@
--- The word of a weight is 2^62 and its size, added or taken away by its sign.
+-- The word of a weight or a bound is 2^62 and its size, added or taken away by its sign.
 use mathlib.Core.Path.{_≡_}
 use mathlib.Core.Bool.{true, false}
 use borrow.Author.Needs.{needs}
 use native.Mathlib.Omega.{arith}
 use lib.IntN.{natAbs}
 use Rattle.merge.proofs.Signs.{size-is, sign-is, weight-negative, weight-positive}
-use Rattle.merge.proofs.weight_word.Statement.{statement}
-use Rattle.merge.proofs.weight_word.Tie as tie
+use Rattle.merge.proofs.number_word.Statement.{statement}
+use Rattle.merge.proofs.number_word.Tie as tie
 
 sized : (c : tie.After-size) → c .size .result ≡ natAbs (c .before .args .w)
 sized c = size-is (c .before .args .w) (c .size .result) (c .before .fits .w) (c .size .ensures)
@@ -17,8 +17,8 @@ returns c = weight-negative (c .before .before .before .args .w) (c .before .bef
 returns-2 : tie.Need-returns-2
 returns-2 c = weight-positive (c .before .before .before .args .w) (c .before .before .size .result) (sized (c .before .before)) (sign-is (c .before .before .before .args .w) (c .before .negative .result) false (c .before .before .before .fits .w) (c .before .negative .ensures) (c .if1 .left))
 
-pub weight-word-spec : {M : Type 1} → statement M
-weight-word-spec = tie.close
+pub number-word-spec : {M : Type 1} → statement M
+number-word-spec = tie.close
     (tie.spec
     (λ c κs. search needs) (λ c κs. search needs) (λ c. omega (arith, sized (c .before .before), c .before .before .before .pre)) returns
     (λ c. omega (arith, sized (c .before .before), c .before .before .before .pre)) returns-2)

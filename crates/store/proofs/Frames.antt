@@ -11,12 +11,12 @@ use Rattle.types.specs.declared.Limits.{Limits}
 use Rattle.numbers.specs.Words.{unbias}
 use Rattle.meaning.specs.Meaning.{Entry, Kind, Side, mixes}
 use Rattle.meaning.specs.Merge.{Rule}
-use Rattle.area.specs.Layout.{word, record-at, tag-at, before-at, written-at, merged-at, kind-of, side-of, constant-of, entries-of, entry-at, entry-words, rule-at}
+use Rattle.area.specs.Layout.{word, record-at, before-at, written-at, merged-at, kind-of, side-of, constant-of, entries-of, entry-at, entry-words, rule-at}
 use Rattle.area.specs.Whole.{RuleWhole}
 use Rattle.theory_check.specs.Theory.{SentenceOk}
 use Rattle.columns.specs.Columns.{Written}
-use Rattle.load.specs.Stored.{Held}
-use Rattle.load.proofs.Parts.{slice-kept}
+use Rattle.store.specs.Stored.{Held}
+use Rattle.store.proofs.Parts.{slice-kept}
 
 abbrev pub rule : ℕ → Kind → Side → ℤ → ℤ → List Entry → ℕ → Rule
 rule head kind side bound constant entries written =
@@ -31,42 +31,28 @@ module _ (w w′ : List ℕ) (n S b : ℕ) (size : length w′ ≡ length w) (me
     (room : entry-at w n S b + 2 * written-at w b ≤ length w)
     (own : (i : ℕ) → b ≤ i → i < b + 8 → word w′ i ≡ word w i)
     (entries : (i : ℕ) → entry-at w n S b ≤ i → i < entry-at w n S b + 2 * written-at w b → word w′ i ≡ word w i) where
-  tag-kept : tag-at w′ b ≡ tag-at w b
-  tag-kept = own (b + 1) (omega arith) (omega arith)
-
-  constant-kept : word w′ (b + 3) ≡ word w (b + 3)
-  constant-kept = own (b + 3) (omega arith) (omega arith)
-
-  place-kept : before-at w′ b ≡ before-at w b
-  place-kept = own (b + 6) (omega arith) (omega arith)
-
-  counts-kept : word w′ (b + 7) ≡ word w (b + 7)
-  counts-kept = own (b + 7) (omega arith) (omega arith)
+  kept : (k : ℕ) → k < 8 → word w′ (b + k) ≡ word w (b + k)
+  kept k l = own (b + k) (omega arith) (omega arith)
 
   words-kept : entry-words w′ (entry-at w′ n S b) (merged-at w′ b) ≡ entry-words w (entry-at w n S b) (merged-at w b)
-  words-kept =
-      ap₂ {A = ℕ} {B = ℕ} (λ x c. entry-words w′ (4 * n + 8 * S + 2 * x) (c / 65536)) place-kept counts-kept
+  words-kept = ap₂ {A = ℕ} {B = ℕ} (λ x c. entry-words w′ (4 * n + 8 * S + 2 * x) (c / 65536)) (kept 6 (omega arith)) (kept 7 (omega arith))
       ∙ slice-kept w w′ (entry-at w n S b) (entry-at w n S b + 2 * merged-at w b) size (omega arith) (λ i l h. entries i l (omega arith))
 
   pub rule-kept : rule-at w′ n S b ≡ rule-at w n S b
-  rule-kept =
-      same-rule (own b (omega arith) (omega arith))
-      (ap {A = ℕ} (λ t. kind-of (t % 8)) tag-kept)
-      (ap {A = ℕ} (λ t. side-of (t / 8 % 2)) tag-kept)
-      (ap {A = ℕ} unbias (own (b + 2) (omega arith) (omega arith)))
-      (ap₂ {A = ℕ} {B = ℕ} (λ t x. constant-of (kind-of (t % 8)) x) tag-kept constant-kept)
-      (ap {A = List ℕ} entries-of words-kept)
-      (ap {A = ℕ} (λ x. x % 65536) counts-kept)
+  rule-kept = same-rule (own b (omega arith) (omega arith))
+      (ap {A = ℕ} (λ t. kind-of (t % 8)) (kept 1 (omega arith))) (ap {A = ℕ} (λ t. side-of (t / 8 % 2)) (kept 1 (omega arith)))
+      (ap {A = ℕ} unbias (kept 2 (omega arith))) (ap₂ {A = ℕ} {B = ℕ} (λ t x. constant-of (kind-of (t % 8)) x) (kept 1 (omega arith)) (kept 3 (omega arith)))
+      (ap {A = List ℕ} entries-of words-kept) (ap {A = ℕ} (λ x. x % 65536) (kept 7 (omega arith)))
 
   sentence-kept : (lim : Limits) → SentenceOk lim w n S b → SentenceOk lim w′ n S b
   sentence-kept lim o = record {
-    kind = omega (arith, tag-kept, o .kind);
-    tag = omega (arith, tag-kept, o .tag);
+    kind = omega (arith, kept 1 (omega arith), o .kind);
+    tag = omega (arith, kept 1 (omega arith), o .tag);
     rule = subst (RuleWhole lim n) (sym rule-kept) (o .rule);
-    constant = λ m. constant-kept ∙ o .constant (subst (λ (t : ℕ). T (not (mixes (kind-of (t % 8))))) tag-kept m);
+    constant = λ m. kept 3 (omega arith) ∙ o .constant (subst (λ (t : ℕ). T (not (mixes (kind-of (t % 8))))) (kept 1 (omega arith)) m);
     unused = λ i l h.
-        let p = place-kept in
-        let c = counts-kept in
+        let p : before-at w′ b ≡ before-at w b = kept 6 (omega arith) in
+        let c : word w′ (b + 7) ≡ word w (b + 7) = kept 7 (omega arith) in
         let e : entry-at w′ n S b + i ≡ entry-at w n S b + i = omega arith in
         ap {A = ℕ} (word w′) e ∙ entries (entry-at w n S b + i) (omega arith) (omega arith) ∙ o .unused i (omega arith) (omega arith);
   }
@@ -81,6 +67,6 @@ held-kept w w′ n S s before x size room own entries h =
     record {
       whole = λ lim v. sentence-kept w w′ n S b size (h .merged) room own entries lim (h .whole lim v);
       rule = rule-kept w w′ n S b size (h .merged) room own entries ∙ h .rule;
-      place = place-kept w w′ n S b size (h .merged) room own entries ∙ h .place;
-      merged = omega (arith, counts-kept w w′ n S b size (h .merged) room own entries, h .merged);
+      place = own (b + 6) (omega arith) (omega arith) ∙ h .place;
+      merged = omega (arith, own (b + 7) (omega arith) (omega arith), h .merged);
     }

@@ -17,8 +17,9 @@ use Rattle.area.specs.Layout.{word, record-at, before-at, written-at, merged-at
 use Rattle.theory_check.specs.Theory.{SentenceOk}
 use Rattle.columns.specs.Columns.{Columns, Written, paired, written, sentence-of}
 use Rattle.columns.specs.Columns as column
-use Rattle.columns.specs.Refusals.{need, load-answer}
+use Rattle.columns.specs.Refusals.{need}
 use Rattle.columns.specs.Indexed.{Passes}
+use Rattle.columns.specs.Decides.{Accepted}
 use Rattle.merge.specs.Into.{Mergeable}
 use Rattle.merge.specs.declared.Merged.{Merged}
 
@@ -89,7 +90,7 @@ pub record Cleared (w w′ : List ℕ) (to first : ℕ) : Type 0 where
 pub record Admitted (w : List ℕ) (n : ℕ) (c : Columns) : Type 0 where
   pub lim : Limits
   pub fitting : Fitting lim
-  pub unrefused : load-answer lim (length w) n c .code ≡ 0
+  pub accepted : Accepted lim (length w) n c
 
 pub record AllStored (w w′ : List ℕ) (n : ℕ) (c : Columns) : Type 0 where
   pub size : length w′ ≡ length w

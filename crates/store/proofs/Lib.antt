@@ -1,0 +1,5 @@
+pub mod Parts
+pub mod Puts
+pub mod Frames
+pub mod Rules
+pub mod Storing
