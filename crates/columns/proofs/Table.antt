@@ -19,16 +19,8 @@ decides [] h = record { none = λ z. tt; nothing = λ e. refl; first = λ n. n r
 decides (r ∷ rs) h = go (r .applies) refl (decides rs (h .1))
   where
     go : (b : Bool) → r .applies ≡ b → Decides rs (first-refusal rs) → Decides (r ∷ rs) (cond b (answer (r .code) (r .value)) (first-refusal rs))
-    go true e d = record {
-      none = λ z. absurd (h .0 z);
-      nothing = λ q. let x : true ≡ false = sym e ∙ q .0 in cc;
-      first = λ n. inl (e, refl);
-    }
-    go false e d = record {
-      none = λ z. (e, d .none z);
-      nothing = λ q. d .nothing (q .1);
-      first = λ n. inr (e, d .first n);
-    }
+    go true e d = record { none = λ z. absurd (h .0 z); nothing = λ q. let x : true ≡ false = sym e ∙ q .0 in cc; first = λ n. inl (e, refl) }
+    go false e d = record { none = λ z. (e, d .none z); nothing = λ q. d .nothing (q .1); first = λ n. inr (e, d .first n) }
 
 numbered : (lim : Limits) (n k : ℕ) (xs : List Written) → Each (λ r. ¬ (r .code ≡ 0)) (all-refusals lim n k xs)
 unfolding all-refusals

@@ -63,11 +63,7 @@ trail-ok = record {
 
 places : PlacesOk base area 3 1
 unfolding entries-before
-places = record {
-  each = only (λ s. _) (record { place = refl; few = omega arith; merged = omega arith });
-  entries = omega arith;
-  room = omega arith;
-}
+places = record { each = only (λ s. _) (record { place = refl; few = omega arith; merged = omega arith }); entries = omega arith; room = omega arith }
 
 apart : (k : ℕ) → ¬ (pos (suc k) ≡ pos 0)
 apart k e = let q : suc k ≡ 0 = cc in omega arith
@@ -92,13 +88,7 @@ rule-whole = record {
 }
 
 sentence-ok : SentenceOk base area 3 1 12
-sentence-ok = record {
-  kind = omega arith;
-  tag = omega arith;
-  rule = rule-whole;
-  constant = λ t. absurd t;
-  unused = λ i l h. absurd (omega arith);
-}
+sentence-ok = record { kind = omega arith; tag = omega arith; rule = rule-whole; constant = λ t. absurd t; unused = λ i l h. absurd (omega arith) }
 
 matching : Matching area 3 1 12 []
 unfolding entries-of unbias literal-of standing extreme gather

@@ -37,21 +37,21 @@ entries-none (x ∷ w) = refl
 
 pub entries-length : (w : List ℕ) (n : ℕ) → 2 * n ≤ length w → length (first-entries w n) ≡ n
 entries-length w zero h = ap length (entries-none w)
-entries-length [] (suc n) h = let b : ⊥ = omega arith in absurd b
-entries-length (x ∷ []) (suc n) h = let b : ⊥ = omega arith in absurd b
+entries-length [] (suc n) h = absurd (omega arith)
+entries-length (x ∷ []) (suc n) h = absurd (omega arith)
 entries-length (x ∷ l ∷ w) (suc n) h = ap length (first-pair x l w n) ∙ ap suc (entries-length w n (omega arith))
 
 pub entries-at : (w : List ℕ) (n i : ℕ) (d : Entry) → i < n → 2 * n ≤ length w → getD (first-entries w n) i d ≡ entry-of (word w (2 * i)) (word w (2 * i + 1))
-entries-at w zero i d g h = let b : ⊥ = omega arith in absurd b
-entries-at [] (suc n) i d g h = let b : ⊥ = omega arith in absurd b
-entries-at (x ∷ []) (suc n) i d g h = let b : ⊥ = omega arith in absurd b
+entries-at w zero i d g h = absurd (omega arith)
+entries-at [] (suc n) i d g h = absurd (omega arith)
+entries-at (x ∷ []) (suc n) i d g h = absurd (omega arith)
 entries-at (x ∷ l ∷ w) (suc n) zero d g h = ap (λ r. getD r 0 d) (first-pair x l w n)
 entries-at (x ∷ l ∷ w) (suc n) (suc i) d g h =
     ap (λ r. getD r (suc i) d) (first-pair x l w n) ∙ entries-at w n i d (omega arith) (omega arith) ∙ sym (entry-behind x l w i)
 
 pub entries-next : (w : List ℕ) (n : ℕ) → 2 * n + 1 < length w → first-entries w (suc n) ≡ first-entries w n ++ (entry-of (word w (2 * n)) (word w (2 * n + 1)) ∷ [])
-entries-next [] n h = let b : ⊥ = omega arith in absurd b
-entries-next (x ∷ []) n h = let b : ⊥ = omega arith in absurd b
+entries-next [] n h = absurd (omega arith)
+entries-next (x ∷ []) n h = absurd (omega arith)
 entries-next (x ∷ l ∷ w) zero h = first-pair x l w 0 ∙ ap (λ r. entry-of x l ∷ r) (entries-none w) ∙ sym (ap (λ r. r ++ (entry-of x l ∷ [])) (entries-none (x ∷ l ∷ w)))
 entries-next (x ∷ l ∷ w) (suc n) h = first-pair x l w (suc n) ∙ ap (λ r. entry-of x l ∷ r) (entries-next w n (omega arith))
     ∙ ap (λ r. entry-of x l ∷ (first-entries w n ++ (r ∷ []))) (sym (entry-behind x l w n))
@@ -59,9 +59,9 @@ entries-next (x ∷ l ∷ w) (suc n) h = first-pair x l w (suc n) ∙ ap (λ r. 
 
 -- a weight written anew
 pub entries-set : (w : List ℕ) (n i z : ℕ) → i < n → 2 * n ≤ length w → first-entries (set w (2 * i) z) n ≡ set (first-entries w n) i (entry-of z (word w (2 * i + 1)))
-entries-set w zero i z g h = let b : ⊥ = omega arith in absurd b
-entries-set [] (suc n) i z g h = let b : ⊥ = omega arith in absurd b
-entries-set (x ∷ []) (suc n) i z g h = let b : ⊥ = omega arith in absurd b
+entries-set w zero i z g h = absurd (omega arith)
+entries-set [] (suc n) i z g h = absurd (omega arith)
+entries-set (x ∷ []) (suc n) i z g h = absurd (omega arith)
 entries-set (x ∷ l ∷ w) (suc n) zero z g h = first-pair z l w n ∙ sym (ap (λ r. set r 0 (entry-of z l)) (first-pair x l w n))
 entries-set (x ∷ l ∷ w) (suc n) (suc i) z g h = ap (λ v. first-entries v (suc n)) (set-behind x l w i z) ∙ first-pair x l (set w (2 * i) z) n
     ∙ ap (λ r. entry-of x l ∷ r) (entries-set w n i z (omega arith) (omega arith))

@@ -29,7 +29,7 @@ either P l m here other =
     elim (same l m) as (λ b. (T b → l ≡ m) → (l ≡ m → T b) → P) [ true ↦ λ f g. here (f tt) | false ↦ λ f g. other g ] (same→eq l m) (eq→same l m)
 
 pub each-at : {A : Type 0} (P : A → Type 0) (xs : List A) (i : ℕ) (d : A) → i < length xs → Each P xs → P (getD xs i d)
-each-at P [] i d h e = let b : ⊥ = omega arith in absurd b
+each-at P [] i d h e = absurd (omega arith)
 each-at P (x ∷ xs) zero d h e = e .0
 each-at P (x ∷ xs) (suc i) d h e = each-at P xs i d (omega arith) (e .1)
 

@@ -29,7 +29,7 @@ pub record Sifting (before part : List ℕ) (k m : ℕ) : Type 0 where
 pub sift-none : (before : List ℕ) → Sifting before before 0 0
 unfolding nonzero
 sift-none before = record {
-  sifted = record { entries = entries-none before ∙ sym (ap nonzero (entries-none before)); literals = λ h i g. let b : ⊥ = omega arith in absurd b; few = omega arith };
+  sifted = record { entries = entries-none before ∙ sym (ap nonzero (entries-none before)); literals = λ h i g. absurd (omega arith); few = omega arith };
   ahead = λ j h. refl;
 }
 
@@ -95,7 +95,7 @@ pub record Wiping (before part : List ℕ) (from i : ℕ) : Type 0 where
   pub zeros : (j : ℕ) → from ≤ j → j < i → word part j ≡ 0
 
 pub wipe-none : (before : List ℕ) (from : ℕ) → Wiping before before from from
-wipe-none before from = record { front = refl; zeros = λ j h g. let b : ⊥ = omega arith in absurd b }
+wipe-none before from = record { front = refl; zeros = λ j h g. absurd (omega arith) }
 
 pub wipe-next : {before part : List ℕ} {from i : ℕ} → Wiping before part from i → from ≤ i → i < length part → Wiping before (set part i 0) from (i + 1)
 wipe-next {before} {part} {from} {i} w low high = record {

@@ -71,30 +71,24 @@ taken-other (suc (suc (suc (suc k)))) b h = refl
 
 -- ---- turned entries
 
-turn-plain : (k : Kind) (e : Entry) → mixes k ≡ false → turn k e ≡ e
-turn-plain k e = elim k [ sum ↦ λ h. cc | product ↦ λ h. refl | count ↦ λ h. cc | maximum ↦ λ h. refl | minimum ↦ λ h. refl ]
+plain : (k : Kind) (e : Entry) → mixes k ≡ false → (turn k e ≡ e) × (freed k e ≡ pos 0)
+plain k e = elim k [ sum ↦ λ h. (cc, cc) | product ↦ λ h. (refl, refl) | count ↦ λ h. (cc, cc) | maximum ↦ λ h. (refl, refl) | minimum ↦ λ h. (refl, refl) ]
 
-freed-plain : (k : Kind) (e : Entry) → mixes k ≡ false → freed k e ≡ pos 0
-freed-plain k e = elim k [ sum ↦ λ h. cc | product ↦ λ h. refl | count ↦ λ h. cc | maximum ↦ λ h. refl | minimum ↦ λ h. refl ]
-
-turn-mixed : (k : Kind) (e : Entry) → mixes k ≡ true → turn k e ≡ turned-by (e .weight) (e .literal)
-turn-mixed k e = elim k [ sum ↦ λ h. refl | product ↦ λ h. cc | count ↦ λ h. refl | maximum ↦ λ h. cc | minimum ↦ λ h. cc ]
-
-freed-mixed : (k : Kind) (e : Entry) → mixes k ≡ true → freed k e ≡ freed-by (e .weight) (e .literal)
-freed-mixed k e = elim k [ sum ↦ λ h. refl | product ↦ λ h. cc | count ↦ λ h. refl | maximum ↦ λ h. cc | minimum ↦ λ h. cc ]
+mixed : (k : Kind) (e : Entry) → mixes k ≡ true → (turn k e ≡ turned-by (e .weight) (e .literal)) × (freed k e ≡ freed-by (e .weight) (e .literal))
+mixed k e = elim k [ sum ↦ λ h. (refl, refl) | product ↦ λ h. (cc, cc) | count ↦ λ h. (refl, refl) | maximum ↦ λ h. (cc, cc) | minimum ↦ λ h. (cc, cc) ]
 
 pub turned-plain : (kind x l : ℕ) → mixes (kind-of kind) ≡ false → 2 ≤ l → l ≤ 8193 → TurnedIs kind x l (record { weight = x; literal = l; freed = half })
 turned-plain kind x l m low high = record {
-  entry = sym (turn-plain (kind-of kind) (entry-of x l) m);
-  freed-is = unbias-zero ∙ sym (freed-plain (kind-of kind) (entry-of x l) m);
+  entry = sym (plain (kind-of kind) (entry-of x l) m .0);
+  freed-is = unbias-zero ∙ sym (plain (kind-of kind) (entry-of x l) m .1);
   low = low;
   high = high;
 }
 
 pub turned-even : (kind x l : ℕ) → mixes (kind-of kind) ≡ true → l % 2 ≡ 0 → 2 ≤ l → l ≤ 8193 → TurnedIs kind x l (record { weight = x; literal = l; freed = half })
 turned-even kind x l m e low high = record {
-  entry = sym (turn-mixed (kind-of kind) (entry-of x l) m ∙ rw (literal-even l e));
-  freed-is = unbias-zero ∙ sym (freed-mixed (kind-of kind) (entry-of x l) m ∙ rw (literal-even l e));
+  entry = sym (mixed (kind-of kind) (entry-of x l) m .0 ∙ rw (literal-even l e));
+  freed-is = unbias-zero ∙ sym (mixed (kind-of kind) (entry-of x l) m .1 ∙ rw (literal-even l e));
   low = low;
   high = high;
 }
@@ -106,8 +100,8 @@ turned-odd kind x l m e low high h =
     let q : (l - 1) / 2 ≡ suc (l / 2 - 1) = omega arith in
     let even : literal-of (l - 1) ≡ pos (suc (l / 2 - 1)) = literal-even (l - 1) p ∙ ap pos q in
     record {
-      entry = rw (even, unbias-neg x h) (sym (turn-mixed (kind-of kind) (entry-of x l) m ∙ rw (literal-odd l low e)));
-      freed-is = sym (freed-mixed (kind-of kind) (entry-of x l) m ∙ rw (literal-odd l low e));
+      entry = rw (even, unbias-neg x h) (sym (mixed (kind-of kind) (entry-of x l) m .0 ∙ rw (literal-odd l low e)));
+      freed-is = sym (mixed (kind-of kind) (entry-of x l) m .1 ∙ rw (literal-odd l low e));
       low = omega arith;
       high = omega arith;
     }

@@ -32,7 +32,7 @@ pub record Found (k : Kind) (xs : List Entry) (e d : Entry) (i : ℕ) : Type 0 w
 
 pub put-old : (k : Kind) (xs : List Entry) (e d : Entry) (i : ℕ) → slot xs (e .literal) ≡ suc i → Found k xs e d i
 unfolding put slot
-put-old k [] e d i h = let b : ⊥ = omega arith in absurd b
+put-old k [] e d i h = absurd (omega arith)
 put-old k (x ∷ xs) e d i h =
     let p = by (same (x .literal) (e .literal)) (same→eq (x .literal) (e .literal)) (slot xs (e .literal)) i (put-old k xs e d) refl h in
     record { low = p .0; literal = p .1; put-is = p .2 }
@@ -40,9 +40,9 @@ put-old k (x ∷ xs) e d i h =
     by : (b : Bool) → (T b → x .literal ≡ e .literal) → (s j : ℕ) → ((m : ℕ) → slot xs (e .literal) ≡ suc m → Found k xs e d m) → slot xs (e .literal) ≡ s → cond b 1 (after s) ≡ suc j
         → (j < length (x ∷ xs)) × (getD (x ∷ xs) j d .literal ≡ e .literal) × (cond b (join k x e ∷ xs) (x ∷ put k xs e) ≡ set (x ∷ xs) j (join k (getD (x ∷ xs) j d) e))
     by true eq s zero ih r q = (omega arith, eq tt, refl)
-    by true eq s (suc j) ih r q = let b : ⊥ = omega arith in absurd b
-    by false eq zero j ih r q = let b : ⊥ = omega arith in absurd b
-    by false eq (suc s) zero ih r q = let b : ⊥ = omega arith in absurd b
+    by true eq s (suc j) ih r q = absurd (omega arith)
+    by false eq zero j ih r q = absurd (omega arith)
+    by false eq (suc s) zero ih r q = absurd (omega arith)
     by false eq (suc s) (suc j) ih r q = let o = ih j (omega arith) in (omega (arith, o .low), o .literal, ap (λ r. x ∷ r) (o .put-is))
 
 -- ---- the slots after one entry more
@@ -60,31 +60,28 @@ slot-other k (x ∷ xs) e l d =
 pub slot-new : (k : Kind) (xs : List Entry) (e : Entry) → slot xs (e .literal) ≡ 0 → slot (put k xs e) (e .literal) ≡ suc (length xs)
 unfolding put slot
 slot-new k [] e h = ap (λ b. cond b 1 0) (same-refl (e .literal))
-slot-new k (x ∷ xs) e h = go (same (x .literal) (e .literal)) refl (slot-new k xs e) h
-  where
-    go : (b : Bool) → same (x .literal) (e .literal) ≡ b → (slot xs (e .literal) ≡ 0 → slot (put k xs e) (e .literal) ≡ suc (length xs)) → cond b 1 (after (slot xs (e .literal))) ≡ 0
-        → slot (cond b (join k x e ∷ xs) (x ∷ put k xs e)) (e .literal) ≡ suc (suc (length xs))
-    go true f ih q = let b : ⊥ = omega arith in absurd b
-    go false f ih q = ap (λ b. cond b 1 (after (slot (put k xs e) (e .literal)))) f ∙ ap after (ih (after-zero (slot xs (e .literal)) q))
+slot-new k (x ∷ xs) e h =
+    elim (same (x .literal) (e .literal)) as (λ b. same (x .literal) (e .literal) ≡ b → cond b 1 (after (slot xs (e .literal))) ≡ 0 → slot (cond b (join k x e ∷ xs) (x ∷ put k xs e)) (e .literal) ≡ suc (suc (length xs))) [
+      | true ↦ λ f q. absurd (omega arith)
+      | false ↦ λ f q. ap (λ b. cond b 1 (after (slot (put k xs e) (e .literal)))) f ∙ ap after (slot-new k xs e (after-zero (slot xs (e .literal)) q))
+    ]
+    refl h
 
 pub slot-old : (k : Kind) (xs : List Entry) (e : Entry) (i : ℕ) → slot xs (e .literal) ≡ suc i → slot (put k xs e) (e .literal) ≡ suc i
 unfolding put slot
-slot-old k [] e i h = let b : ⊥ = omega arith in absurd b
+slot-old k [] e i h = absurd (omega arith)
 slot-old k (x ∷ xs) e i h = go (same (x .literal) (e .literal)) refl (slot xs (e .literal)) i (slot-old k xs e) refl h
   where
     go : (b : Bool) → same (x .literal) (e .literal) ≡ b → (s j : ℕ) → ((m : ℕ) → slot xs (e .literal) ≡ suc m → slot (put k xs e) (e .literal) ≡ suc m) → slot xs (e .literal) ≡ s → cond b 1 (after s) ≡ suc j
         → slot (cond b (join k x e ∷ xs) (x ∷ put k xs e)) (e .literal) ≡ suc j
     go true f s j ih r q = ap (λ b. cond b 1 (after (slot xs (e .literal)))) f ∙ q
-    go false f zero j ih r q = let b : ⊥ = omega arith in absurd b
-    go false f (suc s) zero ih r q = let b : ⊥ = omega arith in absurd b
+    go false f zero j ih r q = absurd (omega arith)
+    go false f (suc s) zero ih r q = absurd (omega arith)
     go false f (suc s) (suc j) ih r q = ap (λ b. cond b 1 (after (slot (put k xs e) (e .literal)))) f ∙ ap after (ih j (omega arith))
 
 pub slot-most : (xs : List Entry) (l : ℤ) → slot xs l ≤ length xs
 unfolding slot
 slot-most [] l = omega arith
-slot-most (x ∷ xs) l = go (same (x .literal) l) (slot xs l) (slot-most xs l)
-  where
-    go : (b : Bool) (s : ℕ) → s ≤ length xs → cond b 1 (after s) ≤ suc (length xs)
-    go true s h = omega arith
-    go false zero h = omega arith
-    go false (suc s) h = omega arith
+slot-most (x ∷ xs) l =
+    elim (same (x .literal) l) as (λ b. cond b 1 (after (slot xs l)) ≤ suc (length xs))
+    [ true ↦ omega arith | false ↦ elim (slot xs l) as (λ s. s ≤ length xs → after s ≤ suc (length xs)) [ zero ↦ λ h. omega arith | suc s ↦ λ h. omega arith ] (slot-most xs l) ]

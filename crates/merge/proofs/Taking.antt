@@ -44,8 +44,8 @@ paired-length ws ls e = lists.paired-length ws ls (sym e) ∙ e
 
 paired-at : (ws ls : List ℤ) (i : ℕ) (d : Entry) → length ls ≡ length ws → i < length ws → getD (paired ws ls) i d ≡ record { weight = getD ws i (pos 0); literal = getD ls i (pos 0) }
 unfolding paired
-paired-at [] ls i d e h = let b : ⊥ = omega arith in absurd b
-paired-at (w ∷ ws) [] i d e h = let b : ⊥ = omega arith in absurd b
+paired-at [] ls i d e h = absurd (omega arith)
+paired-at (w ∷ ws) [] i d e h = absurd (omega arith)
 paired-at (w ∷ ws) (l ∷ ls) zero d e h = refl
 paired-at (w ∷ ws) (l ∷ ls) (suc i) d e h = paired-at ws ls i d (omega arith) (omega arith)
 
@@ -155,7 +155,7 @@ unfolding slot some
 gathered-none kind es part table seen t s = rw (take-none es, t, s) (record {
   collected = record {
     entries = entries-none part ∙ none-collected (kind-of kind);
-    literals = λ i h. let b : ⊥ = omega arith in absurd b;
+    literals = λ i h. absurd (omega arith);
     few = omega arith;
     constant-is = unbias-zero ∙ none-freed (kind-of kind);
   };

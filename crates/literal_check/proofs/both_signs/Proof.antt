@@ -3,7 +3,6 @@
 use mathlib.Core.Path.{_≡_, refl, sym, ap, _∙_}
 use mathlib.Core.Bool.{false}
 use mathlib.Core.List.{List}
-use mathlib.Core.Logic.{⊎-elim}
 use Prim.Native.Nat.{ℕ, _≤_, _<_, _-_, _+_}
 use native.Mathlib.Omega.{arith}
 use borrow.Author.Needs.{needs}
@@ -16,7 +15,7 @@ use Rattle.area.specs.Layout.{sign}
 use Rattle.columns.specs.Refusals.{no-atom}
 use Rattle.columns.specs.Indexed.{nth, no-literal, negated-before}
 use Rattle.columns.proofs.Clauses.{of-element, told-atom, is-atom}
-use Rattle.literal_check.proofs.Marks.{Met, sign-is, none-met, step-opposite, step-none, step-met}
+use Rattle.literal_check.proofs.Marks.{Met, sign-low, none-met, step-opposite, step-none, step-met}
 use Rattle.literal_check.proofs.both_signs.Statement.{statement}
 use Rattle.literal_check.proofs.both_signs.Tie as tie
 
@@ -40,12 +39,11 @@ known : (c : tie.After-size Inv-loop μ-loop) → Known (c .before .before .befo
 known c =
     let ls = c .before .before .before .before .args .literals .now in
     let i = c .before .before .before .loop .i in
-    let p = c .before .before .before .before .pre in
-    let k = atoms ls p i (omega arith) in
+    let k = atoms ls (c .before .before .before .before .pre) i (omega arith) in
     record {
       is = told-atom (nth ls i) (record { sfits = c .before .l .given }) (c .size .ensures);
       high = omega (arith, k .1);
-      low = λ j l. atoms ls p j (omega arith) .0;
+      low = λ j l. atoms ls (c .before .before .before .before .pre) j (omega arith) .0;
     }
 
 marked : (c : tie.After-mark Inv-loop μ-loop) → c .mark .result ≡ 1 + sign (nth (c .before .before .before .before .before .args .literals .now) (c .before .before .before .before .loop .i))
@@ -54,32 +52,32 @@ marked c = c .mark .ensures ∙ of-element (λ z. 1 + sign z) (nth (c .before .b
 loop-holds : tie.Need-loop-holds Inv-loop μ-loop
 loop-holds c = (omega arith, refl, none-met _ 4097 refl, some-none _)
 
-array-read-before : tie.Need-array-read-before Inv-loop μ-loop
-array-read-before c = let k = known (c .before) in omega (arith, k .is, k .high)
-
 sub-if1 : tie.Need-sub-if1 Inv-loop μ-loop
-sub-if1 c = let m = marked c in ⊎-elim {A = sign (nth (c .before .before .before .before .before .args .literals .now) (c .before .before .before .before .loop .i)) ≡ 0} {B = sign (nth (c .before .before .before .before .before .args .literals .now) (c .before .before .before .before .loop .i)) ≡ 1} (λ q. omega arith) (λ q. omega arith) (sign-is (nth (c .before .before .before .before .before .args .literals .now) (c .before .before .before .before .loop .i)))
+sub-if1 c = omega (arith, marked c, sign-low (nth (c .before .before .before .before .before .args .literals .now) (c .before .before .before .before .loop .i)))
 
 returns : tie.Need-returns Inv-loop μ-loop
-returns c = let k = known (c .before .before) in
-    sym (some-here (c .before .before .before .before .before .loop .i) (length (c .before .before .before .before .before .before .args .literals .now)) (negated-before (c .before .before .before .before .before .before .args .literals .now)) (omega arith) (step-opposite (c .before .before .before .before .before .before .args .literals .now) (c .before .before .before .before .before .loop .i) (c .before .before .before .before .before .loop .met) (c .before .before .before .before .before .loop .inv .1) (c .before .before .before .before .before .loop .inv .2) (k .low) (k .high) _ _ (k .is) (marked (c .before)) (c .if1 .taken)))
-
-array-write-met : tie.Need-array-write-met Inv-loop μ-loop
-array-write-met c = let k = known (c .before .before) in omega (arith, k .is, k .high)
+returns c =
+    let k = known (c .before .before) in
+    let ls = c .before .before .before .before .before .before .args .literals .now in
+    let l = c .before .before .before .before .before .loop in
+    sym (some-here (l .i) (length ls) (negated-before ls) (omega arith) (step-opposite ls (l .i) (l .met) (l .inv .1) (l .inv .2) (k .low) (k .high) _ _ (k .is) (marked (c .before)) (c .if1 .taken)))
 
 loop-again : tie.Need-loop-again Inv-loop μ-loop
-loop-again c = let k = known (c .before .before) in (
-  omega arith,
-  simp length-set (c .before .before .before .before .before .loop .inv .1),
-  step-met (c .before .before .before .before .before .before .args .literals .now) (c .before .before .before .before .before .loop .i) (c .before .before .before .before .before .loop .met) (c .before .before .before .before .before .loop .inv .1) (c .before .before .before .before .before .loop .inv .2) (k .low) (k .high) _ _ (k .is) (marked (c .before)) (c .if1 .left),
-  some-more (c .before .before .before .before .before .loop .i) (negated-before (c .before .before .before .before .before .before .args .literals .now)) (c .before .before .before .before .before .loop .inv .3) (step-none (c .before .before .before .before .before .before .args .literals .now) (c .before .before .before .before .before .loop .i) (c .before .before .before .before .before .loop .met) (c .before .before .before .before .before .loop .inv .1) (c .before .before .before .before .before .loop .inv .2) (k .low) (k .high) _ _ (k .is) (marked (c .before)) (c .if1 .left)),
-)
+loop-again c =
+    let k = known (c .before .before) in
+    let ls = c .before .before .before .before .before .before .args .literals .now in
+    let l = c .before .before .before .before .before .loop in (
+      omega arith,
+      simp length-set (l .inv .1),
+      step-met ls (l .i) (l .met) (l .inv .1) (l .inv .2) (k .low) (k .high) _ _ (k .is) (marked (c .before)) (c .if1 .left),
+      some-more (l .i) (negated-before ls) (l .inv .3) (step-none ls (l .i) (l .met) (l .inv .1) (l .inv .2) (k .low) (k .high) _ _ (k .is) (marked (c .before)) (c .if1 .left)),
+    )
 
 returns-2 : tie.Need-returns-2 Inv-loop μ-loop
 returns-2 c = let ls = c .before .before .args .literals .now in let e : c .before .loop .i ≡ length ls = omega arith in sym (c .before .loop .inv .3) ∙ ap {A = ℕ} (λ k. some-below k (negated-before ls)) e
 
 pub both-signs-spec : {M : Type 1} → statement M
-both-signs-spec = tie.close
-    (tie.spec
-    Inv-loop μ-loop loop-holds (λ c. search needs) (λ c. search needs) (λ c κs. search needs) (λ c κs. search needs) array-read-before sub-if1 returns
-    array-write-met (λ c. search needs) (λ c. search needs) loop-again returns-2)
+both-signs-spec = tie.close (tie.spec
+    Inv-loop μ-loop loop-holds (λ c. search needs) (λ c. search needs) (λ c κs. search needs) (λ c κs. search needs)
+    (λ c. let k = known (c .before) in omega arith) sub-if1 returns (λ c. let k = known (c .before .before) in omega arith) (λ c. search needs)
+    (λ c. search needs) loop-again returns-2)

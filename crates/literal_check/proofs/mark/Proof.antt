@@ -25,6 +25,5 @@ returns-2 : tie.Need-returns-2
 returns-2 c = ap (λ s. 1 + s) (sym (natural-sign (c .before .before .args .literal) (sym (of-element is-negative (c .before .before .args .literal) (c .before .before .fits .literal)) ∙ sym (c .before .negative .ensures) ∙ c .if1 .left)))
 
 pub mark-spec : {M : Type 1} → statement M
-mark-spec = tie.close
-    (tie.spec
+mark-spec = tie.close (tie.spec
     (λ c κs. search needs) returns returns-2)

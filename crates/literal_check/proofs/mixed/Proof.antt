@@ -20,6 +20,5 @@ returns-3 : tie.Need-returns-3
 returns-3 c = rw (unmixing (c .before .before .before .args .kind) (c .before .before .if1 .left) (c .before .if2 .left)) (c .both-signs .ensures)
 
 pub mixed-spec : {M : Type 1} → statement M
-mixed-spec = tie.close
-    (tie.spec
+mixed-spec = tie.close (tie.spec
     (λ c. search needs) (λ c. search needs) (λ c κs. search needs) returns-3)

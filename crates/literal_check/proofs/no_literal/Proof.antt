@@ -1,7 +1,7 @@
 -- Some literal is of no atom: the loop's invariant is that none so far is, and a literal's size is its atom.
-use mathlib.Core.Path.{_≡_, sym, ap, _∙_}
+use mathlib.Core.Path.{_≡_, sym, _∙_}
 use mathlib.Core.Bool.{false}
-use Prim.Native.Nat.{ℕ, _≤_, _-_}
+use Prim.Native.Nat.{_≤_, _-_}
 use native.Mathlib.Omega.{arith}
 use borrow.Author.Needs.{needs}
 use lib.ListN.{length}
@@ -28,19 +28,18 @@ loop-holds : tie.Need-loop-holds Inv-loop μ-loop
 loop-holds c = (omega arith, some-none _)
 
 returns : tie.Need-returns Inv-loop μ-loop
-returns c = sym (some-here (c .before .before .before .before .loop .i) _ _ (omega arith) (no-atom-zero (c .before .before .before .before .before .args .n) (atom (nth (c .before .before .before .before .before .args .literals .now) (c .before .before .before .before .loop .i))) (sym (known (c .before)) ∙ c .if1 .taken)))
+returns c = let k = known (c .before) in sym (some-here (c .before .before .before .before .loop .i) _ _ (omega arith) (no-atom-zero _ _ (sym k ∙ c .if1 .taken)))
 
 returns-2 : tie.Need-returns-2 Inv-loop μ-loop
-returns-2 c = sym (some-here (c .before .before .before .before .before .loop .i) _ _ (omega arith) (no-atom-high (c .before .before .before .before .before .before .args .n) (atom (nth (c .before .before .before .before .before .before .args .literals .now) (c .before .before .before .before .before .loop .i))) (omega (arith, known (c .before .before)))))
+returns-2 c = let k = known (c .before .before) in sym (some-here (c .before .before .before .before .before .loop .i) _ _ (omega arith) (no-atom-high (c .before .before .before .before .before .before .args .n) (atom (nth (c .before .before .before .before .before .before .args .literals .now) (c .before .before .before .before .before .loop .i))) (omega arith)))
 
 loop-again : tie.Need-loop-again Inv-loop μ-loop
-loop-again c = (omega arith, some-more _ _ (c .before .before .before .before .before .loop .inv .1) (an-atom (c .before .before .before .before .before .before .args .n) (atom (nth (c .before .before .before .before .before .before .args .literals .now) (c .before .before .before .before .before .loop .i))) (λ e. c .before .if1 .left (known (c .before .before) ∙ e)) (omega (arith, known (c .before .before)))))
+loop-again c = let k = known (c .before .before) in (omega arith, some-more _ _ (c .before .before .before .before .before .loop .inv .1) (an-atom _ _ (λ e. c .before .if1 .left (k ∙ e)) (omega arith)))
 
 returns-3 : tie.Need-returns-3 Inv-loop μ-loop
-returns-3 c = let e : c .before .loop .i ≡ length (c .before .before .args .literals .now) = omega arith in sym (c .before .loop .inv .1) ∙ ap {A = ℕ} (λ k. some-below k (λ j. no-atom (c .before .before .args .n) (atom (nth (c .before .before .args .literals .now) j)))) e
+returns-3 c = let e : c .before .loop .i ≡ length (c .before .before .args .literals .now) = omega arith in rw e at (sym (c .before .loop .inv .1))
 
 pub no-literal-spec : {M : Type 1} → statement M
-no-literal-spec = tie.close
-    (tie.spec
+no-literal-spec = tie.close (tie.spec
     Inv-loop μ-loop loop-holds (λ c. search needs) (λ c. search needs) (λ c κs. search needs) returns returns-2 (λ c. search needs)
     (λ c. search needs) loop-again returns-3)

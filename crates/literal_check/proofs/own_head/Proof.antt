@@ -1,7 +1,7 @@
 -- Some literal is of the head's atom: the loop's invariant is that none so far is, and a literal's size is its atom.
-use mathlib.Core.Path.{_≡_, sym, ap, _∙_}
+use mathlib.Core.Path.{_≡_, sym, _∙_}
 use mathlib.Core.Bool.{false}
-use Prim.Native.Nat.{ℕ, _≤_, _-_}
+use Prim.Native.Nat.{_≤_, _-_}
 use native.Mathlib.Omega.{arith}
 use borrow.Author.Needs.{needs}
 use lib.ListN.{length}
@@ -29,16 +29,15 @@ loop-holds : tie.Need-loop-holds Inv-loop μ-loop
 loop-holds c = (omega arith, some-none _)
 
 returns : tie.Need-returns Inv-loop μ-loop
-returns c = sym (some-here (c .before .before .before .before .loop .i) _ _ (omega arith) (eq-eqb (atom (nth (c .before .before .before .before .before .args .literals .now) (c .before .before .before .before .loop .i))) (c .before .before .before .before .before .args .head) (sym (known (c .before)) ∙ c .if1 .taken)))
+returns c = let k = known (c .before) in sym (some-here (c .before .before .before .before .loop .i) _ _ (omega arith) (eq-eqb _ _ (sym k ∙ c .if1 .taken)))
 
 loop-again : tie.Need-loop-again Inv-loop μ-loop
-loop-again c = (omega arith, some-more _ _ (c .before .before .before .before .loop .inv .1) (ne-eqb (atom (nth (c .before .before .before .before .before .args .literals .now) (c .before .before .before .before .loop .i))) (c .before .before .before .before .before .args .head) (λ e. c .if1 .left (known (c .before) ∙ e))))
+loop-again c = let k = known (c .before) in (omega arith, some-more _ _ (c .before .before .before .before .loop .inv .1) (ne-eqb _ _ (λ e. c .if1 .left (k ∙ e))))
 
 returns-2 : tie.Need-returns-2 Inv-loop μ-loop
-returns-2 c = let e : c .before .loop .i ≡ length (c .before .before .args .literals .now) = omega arith in sym (c .before .loop .inv .1) ∙ ap {A = ℕ} (λ k. some-below k (λ j. eqb (atom (nth (c .before .before .args .literals .now) j)) (c .before .before .args .head))) e
+returns-2 c = let e : c .before .loop .i ≡ length (c .before .before .args .literals .now) = omega arith in rw e at (sym (c .before .loop .inv .1))
 
 pub own-head-spec : {M : Type 1} → statement M
-own-head-spec = tie.close
-    (tie.spec
+own-head-spec = tie.close (tie.spec
     Inv-loop μ-loop loop-holds (λ c. search needs) (λ c. search needs) (λ c κs. search needs) returns (λ c. search needs) (λ c. search needs)
     loop-again returns-2)

@@ -14,6 +14,5 @@ returns-3 : tie.Need-returns-3
 returns-3 c = rw (ne-eqb _ _ (c .before .before .if1 .left), le-ltb _ _ (c .before .if2 .left)) (c .no-literal .ensures)
 
 pub strange-spec : {M : Type 1} → statement M
-strange-spec = tie.close
-    (tie.spec
+strange-spec = tie.close (tie.spec
     returns returns-2 (λ c κs. search needs) returns-3)

@@ -46,6 +46,5 @@ returns-2 c =
     }
 
 pub load-within-spec : {M : Type 1} → statement M
-load-within-spec = tie.close
-    (tie.spec
+load-within-spec = tie.close (tie.spec
     (λ c κs. search needs) returns store-all-requires (λ c. search needs) refresh-requires (λ c. search needs) returns-2)

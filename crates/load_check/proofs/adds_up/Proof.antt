@@ -30,6 +30,5 @@ returns-2 : tie.Need-returns-2 Inv-loop μ-loop
 returns-2 c = let cs = c .before .before .args .counts .now in let e : c .before .loop .i ≡ length cs = omega arith in left-zero (c .before .loop .left) (sum-first cs (length cs)) (c .before .before .args .total) (omega (arith, c .before .loop .inv .1, ap {A = ℕ} (sum-first cs) e))
 
 pub adds-up-spec : {M : Type 1} → statement M
-adds-up-spec = tie.close
-    (tie.spec
+adds-up-spec = tie.close (tie.spec
     Inv-loop μ-loop loop-holds (λ c. search needs) (λ c. search needs) returns (λ c. search needs) (λ c. search needs) loop-again returns-2)

@@ -45,15 +45,6 @@ told c =
 loop-holds : tie.Need-loop-holds Inv-loop μ-loop
 loop-holds c = let s = c .before .before .before .before in (omega arith, omega arith, sym (sum-none _), from-first (s .args .lim) (s .args .n) (cols s) 0 refl)
 
-add-to : tie.Need-add-to Inv-loop μ-loop
-add-to c = let k = here (c .before) in omega (arith, k .weights)
-
-part-sentence-refusal-end : tie.Need-part-sentence-refusal-end Inv-loop μ-loop
-part-sentence-refusal-end c = let k = here (c .before .before .before .before .before) in omega (arith, k .weights)
-
-part-sentence-refusal-end-2 : tie.Need-part-sentence-refusal-end-2 Inv-loop μ-loop
-part-sentence-refusal-end-2 c = let k = here (c .before .before .before .before .before .before) in omega (arith, k .literals)
-
 returns : tie.Need-returns Inv-loop μ-loop
 returns c =
     let s = c .before .before .before .before .before .before .before .before .before .before .before .before .before .before .before in
@@ -72,10 +63,10 @@ returns-2 : tie.Need-returns-2 Inv-loop μ-loop
 returns-2 c = let s = c .before .before .before .before .before .before in sym (c .before .loop .inv .3 ∙ from-none (s .args .lim) (s .args .n) (cols s) (c .before .loop .s) (omega arith))
 
 pub first-refused-spec : {M : Type 1} → statement M
-first-refused-spec = tie.close
-    (tie.spec
-    Inv-loop μ-loop loop-holds (λ c. search needs) (λ c. search needs) add-to (λ c. search needs) (λ c. search needs) (λ c. search needs)
+first-refused-spec = tie.close (tie.spec
+    Inv-loop μ-loop loop-holds (λ c. search needs) (λ c. search needs) (λ c. let k = here (c .before) in omega (arith, k .weights))
+    (λ c. search needs) (λ c. search needs) (λ c. search needs) (λ c. search needs) (λ c. search needs) (λ c. search needs) (λ c. search needs)
     (λ c. search needs) (λ c. search needs) (λ c. search needs) (λ c. search needs)
-    (λ c. search needs) (λ c. search needs) (λ c. search needs) (λ c. search needs) part-sentence-refusal-end
-    (λ c. search needs) (λ c. search needs) (λ c. search needs) part-sentence-refusal-end-2 (λ c κs. search needs)
+    (λ c. let k = here (c .before .before .before .before .before) in omega (arith, k .weights)) (λ c. search needs) (λ c. search needs)
+    (λ c. search needs) (λ c. let k = here (c .before .before .before .before .before .before) in omega (arith, k .literals)) (λ c κs. search needs)
     (λ c. search needs) returns (λ c. search needs) (λ c. search needs) loop-again returns-2)

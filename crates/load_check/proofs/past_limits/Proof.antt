@@ -16,6 +16,5 @@ returns-4 : tie.Need-returns-4
 returns-4 c = rw (ne-eqb _ _ (c .before .before .before .before .before .if1 .left), le-ltb _ _ (c .before .before .before .if2 .left), le-ltb _ _ (c .before .if3 .left))
 
 pub past-limits-spec : {M : Type 1} → statement M
-past-limits-spec = tie.close
-    (tie.spec
+past-limits-spec = tie.close (tie.spec
     returns returns-2 returns-3 returns-4)

@@ -33,21 +33,6 @@ returns-2 c = let s = c .before .before .before .before .before .before .before 
 returns-3 : tie.Need-returns-3
 returns-3 c = let s = c .before .before .before .before .before .before .before .before .before .before in answer-1 (s .args .lim) (s .args .words) (s .args .atoms) (cols s) (shape-sum (s .args .lim) (s .args .atoms) (cols s) (sym (c .before .adds-up .ensures) ∙ not-true _ (c .if3 .taken)))
 
-mul-if4 : tie.Need-mul-if4
-mul-if4 c = let k = fit c in omega arith
-
-mul-if4-2 : tie.Need-mul-if4-2
-mul-if4-2 c = let k = fit c in omega arith
-
-add-if4 : tie.Need-add-if4
-add-if4 c = let k = fit c in omega arith
-
-mul-if4-3 : tie.Need-mul-if4-3
-mul-if4-3 c = let k = fit c in omega arith
-
-add-if4-2 : tie.Need-add-if4-2
-add-if4-2 c = let k = fit c in omega arith
-
 returns-4 : tie.Need-returns-4
 returns-4 c = let s = c .before .before .before .before .before .before .before .before .before .before .before in answer-2 (s .args .lim) (s .args .words) (s .args .atoms) (cols s) (fine (c .before)) (c .if4 .taken)
 
@@ -58,7 +43,7 @@ returns-5 : tie.Need-returns-5
 returns-5 c = let s = c .before .before .before .before .before .before .before .before .before .before .before .before in c .first-refused .ensures ∙ answer-rest (s .args .lim) (s .args .words) (s .args .atoms) (cols s) (fine (c .before .before)) (c .before .if4 .left)
 
 pub refusal-spec : {M : Type 1} → statement M
-refusal-spec = tie.close
-    (tie.spec
-    (λ c κs. search needs) returns (λ c κs. search needs) returns-2 (λ c κs. search needs) returns-3 mul-if4 mul-if4-2 add-if4 mul-if4-3 add-if4-2
+refusal-spec = tie.close (tie.spec
+    (λ c κs. search needs) returns (λ c κs. search needs) returns-2 (λ c κs. search needs) returns-3 (λ c. let k = fit c in omega arith)
+    (λ c. let k = fit c in omega arith) (λ c. let k = fit c in omega arith) (λ c. let k = fit c in omega arith) (λ c. let k = fit c in omega arith)
     returns-4 first-refused-requires returns-5)

@@ -68,7 +68,6 @@ returns-8 : tie.Need-returns-8
 returns-8 c = search (is-0, range-told (c .before .before .before .before .before .before), no-product c)
 
 pub sentence-refusal-spec : {M : Type 1} → statement M
-sentence-refusal-spec = tie.close
-    (tie.spec
+sentence-refusal-spec = tie.close (tie.spec
     (λ c κs. search needs) returns (λ c κs. search needs) returns-2 (λ c κs. search needs) returns-3 (λ c κs. search needs) returns-4 mixed-requires
     returns-5 too-great-requires returns-6 returns-7 returns-8)

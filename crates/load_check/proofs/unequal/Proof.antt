@@ -19,6 +19,5 @@ returns-5 : tie.Need-returns-5
 returns-5 c = rw (eq-eqb _ _ (c .before .before .before .before .before .before .before .if1 .left), eq-eqb _ _ (c .before .before .before .before .before .if2 .left), eq-eqb _ _ (c .before .before .before .if3 .left), eq-eqb _ _ (c .before .if4 .left))
 
 pub unequal-spec : {M : Type 1} → statement M
-unequal-spec = tie.close
-    (tie.spec
+unequal-spec = tie.close (tie.spec
     returns returns-2 returns-3 returns-4 returns-5)

@@ -13,6 +13,5 @@ returns-3 : tie.Need-returns-3
 returns-3 c = rw (le-ltb _ _ (c .before .if1 .left), le-ltb _ _ (c .if2 .left))
 
 pub unknown-spec : {M : Type 1} → statement M
-unknown-spec = tie.close
-    (tie.spec
+unknown-spec = tie.close (tie.spec
     returns returns-2 returns-3)

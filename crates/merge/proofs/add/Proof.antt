@@ -27,6 +27,5 @@ returns-2 : tie.Need-returns-2
 returns-2 c = record { next = λ es g t. rw (c .before .before .before .before .before .before .before .before .before .takes .ensures .1) (taken-in g t (c .before .before .before .before .before .before .before .turn .ensures) (c .before .before .put .ensures) (sym (c .before .before .before .before .before .before .before .before .before .takes .ensures .0) ∙ not-false _ (c .before .before .before .before .before .before .before .before .if1 .left))) }
 
 pub add-spec : {M : Type 1} → statement M
-add-spec = tie.close
-    (tie.spec
+add-spec = tie.close (tie.spec
     (λ c κs. search needs) returns turn-requires add-constant sub-constant put-requires (λ c. search needs) returns-2)

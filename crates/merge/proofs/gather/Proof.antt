@@ -57,8 +57,7 @@ returns : tie.Need-returns Inv-loop μ-loop
 returns c = rw (take-all (c .before .loop .i) (paired (c .before .before .before .args .weights .now) (c .before .before .before .args .literals .now)) (omega (arith, paired-length (c .before .before .before .args .weights .now) (c .before .before .before .args .literals .now) (c .before .before .before .pre .same)))) at (c .before .loop .inv .2 .collected)
 
 pub gather-spec : {M : Type 1} → statement M
-gather-spec = tie.close
-    (tie.spec
+gather-spec = tie.close (tie.spec
     Inv-loop μ-loop loop-holds (λ c. search needs) (λ c. search needs) number-word-requires (λ c. search needs)
     (λ c. omega (arith, c .before .before .before .before .before .pre .same)) literal-word-requires (λ c. search needs) add-requires
     (λ c. search needs) loop-again (λ c. c .before .loop .inv .1) returns)

@@ -46,7 +46,6 @@ returns-6 : tie.Need-returns-6
 returns-6 c = least-joins (kind-of (c .before .before .before .before .before .args .kind)) (c .before .before .before .before .before .args .x) (c .before .before .before .before .before .args .y) (least (c .before)) .1 (c .if5 .left)
 
 pub join-spec : {M : Type 1} → statement M
-join-spec = tie.close
-    (tie.spec
+join-spec = tie.close (tie.spec
     (λ c κs. search needs) (λ c. omega (arith, sums c .high)) sub-result returns sub-result-2 sub-result-3 (λ c. omega (arith, products c .high))
     (λ c. omega (arith, products c .high)) returns-2 returns-3 returns-4 returns-5 returns-6)

@@ -18,8 +18,7 @@ returns-2 : tie.Need-returns-2
 returns-2 c = literal-positive (c .before .before .before .args .l) (c .before .before .size .result) (sized (c .before .before)) (sign-is (c .before .before .before .args .l) (c .before .negative .result) false (c .before .before .before .fits .l) (c .before .negative .ensures) (c .if1 .left))
 
 pub literal-word-spec : {M : Type 1} → statement M
-literal-word-spec = tie.close
-    (tie.spec
+literal-word-spec = tie.close (tie.spec
     (λ c κs. search needs) (λ c κs. search needs) (λ c. omega (arith, sized (c .before .before), c .before .before .before .pre))
     (λ c. omega (arith, sized (c .before .before), c .before .before .before .pre)) returns
     (λ c. omega (arith, sized (c .before .before), c .before .before .before .pre)) returns-2)

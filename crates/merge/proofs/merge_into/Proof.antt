@@ -22,7 +22,6 @@ returns-2 : tie.Need-returns-2
 returns-2 c = merged-plain (c .before .before .before .before .before .before .before .before .before .before .before .pre) (c .before .before .before .before .before .before .before .before .gather .result) (c .before .before .before .before .before .before .before .before .gather .kept .0) (c .before .before .before .before .before .before .before .before .gather .ensures) (sym (c .before .before .before .before .before .mixing .ensures) ∙ c .before .before .before .before .if1 .left) (c .before .before .wipe2 .ensures) (c .before .before .wipe2 .kept .0)
 
 pub merge-into-spec : {M : Type 1} → statement M
-merge-into-spec = tie.close
-    (tie.spec
+merge-into-spec = tie.close (tie.spec
     (λ c κs. search needs) (λ c κs. search needs) sift-requires mul-wipe (λ c κs. search needs) (λ c. search needs) returns mul-wipe-2
     (λ c κs. search needs) (λ c. search needs) returns-2)

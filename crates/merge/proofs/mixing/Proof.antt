@@ -8,6 +8,5 @@ returns-2 : tie.Need-returns-2
 returns-2 c = mixes-two _ (c .if1 .left)
 
 pub mixing-spec : {M : Type 1} → statement M
-mixing-spec = tie.close
-    (tie.spec
+mixing-spec = tie.close (tie.spec
     (λ c. search needs) returns-2)

@@ -18,7 +18,6 @@ returns-2 : tie.Need-returns-2
 returns-2 c = weight-positive (c .before .before .before .args .w) (c .before .before .size .result) (sized (c .before .before)) (sign-is (c .before .before .before .args .w) (c .before .negative .result) false (c .before .before .before .fits .w) (c .before .negative .ensures) (c .if1 .left))
 
 pub number-word-spec : {M : Type 1} → statement M
-number-word-spec = tie.close
-    (tie.spec
+number-word-spec = tie.close (tie.spec
     (λ c κs. search needs) (λ c κs. search needs) (λ c. omega (arith, sized (c .before .before), c .before .before .before .pre)) returns
     (λ c. omega (arith, sized (c .before .before), c .before .before .before .pre)) returns-2)

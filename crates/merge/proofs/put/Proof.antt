@@ -19,9 +19,6 @@ place c = getD (c .before .before .before .args .table .now) (c .before .before 
 is-place : (c : tie.Else1) → getD (c .before .before .before .args .table .now) (c .before .before .before .args .l) 0 ≡ suc (place c)
 is-place c = one-less (getD (c .before .before .before .args .table .now) (c .before .before .before .args .l) 0) (c .if1 .left)
 
-slice-read-y : tie.Need-slice-read-y
-slice-read-y c = omega (arith, old-few (c .before .before .before .before .pre) (place (c .before)) (is-place (c .before)))
-
 join-requires : tie.Need-join-requires
 join-requires c κs = old-joinable (c .before .before .before .before .pre) (place (c .before)) (is-place (c .before))
 
@@ -32,10 +29,10 @@ returns-2 : tie.Need-returns-2
 returns-2 c = put-onto (c .before .before .before .before .before .pre) (place (c .before .before)) (is-place (c .before .before)) (c .join .result) (c .join .ensures)
 
 pub put-spec : {M : Type 1} → statement M
-put-spec = tie.close
-    (tie.spec
+put-spec = tie.close (tie.spec
     (λ c. search needs) (λ c. search needs) (λ c. omega (arith, slot-few (c .before .before .pre))) (λ c. search needs) (λ c. search needs)
     (λ c. search needs) (λ c. search needs) (λ c. search needs) (λ c. search needs) (λ c. search needs) (λ c. search needs) (λ c. search needs)
     (λ c. search needs) (λ c. search needs) (λ c. search needs) (λ c. search needs) returns (λ c. search needs)
-    (λ c. omega (arith, slot-few (c .before .before .before .pre))) (λ c. omega (arith, slot-few (c .before .before .before .pre))) slice-read-y
-    join-requires (λ c. omega (arith, slot-few (c .before .before .before .before .before .pre))) slice-write-part-3 (λ c. search needs) returns-2)
+    (λ c. omega (arith, slot-few (c .before .before .before .pre))) (λ c. omega (arith, slot-few (c .before .before .before .pre)))
+    (λ c. omega (arith, old-few (c .before .before .before .before .pre) (place (c .before)) (is-place (c .before)))) join-requires
+    (λ c. omega (arith, slot-few (c .before .before .before .before .before .pre))) slice-write-part-3 (λ c. search needs) returns-2)

@@ -30,8 +30,7 @@ returns : tie.Need-returns Inv-loop μ-loop
 returns c = let e : c .before .loop .k ≡ c .before .before .args .count = omega arith in rw e at (c .before .loop .inv .3 .sifted)
 
 pub sift-spec : {M : Type 1} → statement M
-sift-spec = tie.close
-    (tie.spec
+sift-spec = tie.close (tie.spec
     Inv-loop μ-loop loop-holds (λ c. search needs) (λ c. search needs) (λ c. search needs) (λ c. search needs) (λ c. search needs) (λ c. search needs)
     (λ c. search needs) (λ c. search needs) (λ c. search needs) (λ c. search needs) (λ c. search needs) (λ c. search needs) (λ c. search needs)
     (λ c. search needs) slice-write-part-2 (λ c. search needs) (λ c. search needs) loop-again (λ c. search needs) loop-again-2

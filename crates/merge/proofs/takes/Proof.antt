@@ -12,6 +12,5 @@ returns-2 : tie.Need-returns-2
 returns-2 c = (taken-other (c .before .before .args .kind) _ (c .if1 .left), refl)
 
 pub takes-spec : {M : Type 1} → statement M
-takes-spec = tie.close
-    (tie.spec
+takes-spec = tie.close (tie.spec
     (λ c. search needs) (λ c. search needs) returns returns-2)

@@ -17,6 +17,5 @@ returns-3 : tie.Need-returns-3
 returns-3 c = turned-odd _ _ _ (sym (c .before .before .mixing .ensures) ∙ not-false _ (c .before .if1 .left)) (omega arith) (c .before .before .before .pre .1) (c .before .before .before .pre .2) (c .before .before .before .pre .0)
 
 pub turn-spec : {M : Type 1} → statement M
-turn-spec = tie.close
-    (tie.spec
+turn-spec = tie.close (tie.spec
     (λ c κs. search needs) returns returns-2 (λ c. search needs) (λ c. search needs) (λ c. search needs) returns-3)

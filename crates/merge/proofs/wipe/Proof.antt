@@ -24,7 +24,6 @@ returns : tie.Need-returns Inv-loop μ-loop
 returns c = record { front = c .before .loop .inv .2 .front; rest = λ i h g. c .before .loop .inv .2 .zeros i h (omega arith) }
 
 pub wipe-spec : {M : Type 1} → statement M
-wipe-spec = tie.close
-    (tie.spec
+wipe-spec = tie.close (tie.spec
     Inv-loop μ-loop loop-holds (λ c. search needs) (λ c. search needs) (λ c. search needs) (λ c. search needs) loop-again
     (λ c. c .before .loop .inv .1) returns)

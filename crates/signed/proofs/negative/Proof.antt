@@ -7,6 +7,5 @@ returns : tie.Need-returns
 returns c = told-sign _ (c .fits .x)
 
 pub negative-spec : {M : Type 1} → statement M
-negative-spec = tie.close
-    (tie.spec
+negative-spec = tie.close (tie.spec
     returns)

@@ -23,6 +23,5 @@ returns-2 : tie.Need-returns-2
 returns-2 c = plus _ (c .before .fits .x) (c .if1 .left) .value
 
 pub size-spec : {M : Type 1} → statement M
-size-spec = tie.close
-    (tie.spec
+size-spec = tie.close (tie.spec
     sub-result cast-result add-result returns cast-result-2 returns-2)

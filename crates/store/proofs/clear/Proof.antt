@@ -30,7 +30,6 @@ returns : tie.Need-returns Inv-loop μ-loop
 returns c = cleared (c .before .before .args .area .now) _ (c .before .before .args .to) (c .before .before .args .first) (c .before .loop .i) (omega arith) (omega arith) (omega arith) (c .before .loop .inv .1)
 
 pub clear-spec : {M : Type 1} → statement M
-clear-spec = tie.close
-    (tie.spec
+clear-spec = tie.close (tie.spec
     Inv-loop μ-loop (λ c. search needs) loop-holds (λ c. search needs) slice-write-area-2 (λ c. search needs) (λ c. search needs) loop-again
     same-length returns)

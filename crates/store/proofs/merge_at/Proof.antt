@@ -20,7 +20,6 @@ returns c =
     merged-put (b .args .area .now) (c .before .before .merge-into .last .0) (b .args .at) (b .args .at + 2 * length (b .args .weights .now)) (omega arith) (omega arith) (omega (arith, c .before .before .merge-into .ensures .size)) (b .args .kind) (b .args .weights .now) (b .args .literals .now) (c .before .before .merge-into .result) refl (c .before .before .merge-into .ensures)
 
 pub merge-at-spec : {M : Type 1} → statement M
-merge-at-spec = tie.close
-    (tie.spec
+merge-at-spec = tie.close (tie.spec
     (λ c. search needs) (λ c. search needs) (λ c. search needs) (λ c. search needs) (λ c. search needs) (λ c. search needs) merge-into-requires
     (λ c. search needs) returns)

@@ -29,20 +29,8 @@ cols c = columns (c .args .heads .now) (c .args .kinds .now) (c .args .sides .no
 place : (c : tie.In-loop Inv-loop μ-loop) → Inside (cols (c .before .before .before .before .before .before .before .before .before .before .before)) (c .before .loop .s) (c .before .loop .from)
 place c = let b = c .before .before .before .before .before .before .before .before .before .before .before in inside (b .pre .lim) (b .args .n) (cols b) (c .before .loop .s) (c .before .loop .from) (b .pre .accepted .shape) (c .loop-test .taken) (c .before .loop .inv .2 .from-is)
 
-clear-requires : tie.Need-clear-requires Inv-loop μ-loop
-clear-requires c κs = let k = c .before .before .before .before .before .before .pre .accepted in (omega arith, omega (arith, k .enough))
-
 loop-holds : tie.Need-loop-holds Inv-loop μ-loop
 loop-holds c = (omega arith, omega arith, running-none _ _ _)
-
-add-to : tie.Need-add-to Inv-loop μ-loop
-add-to c = let k = place (c .before) in omega (arith, k .weights)
-
-part-store-one-end : tie.Need-part-store-one-end Inv-loop μ-loop
-part-store-one-end c = let k = place (c .before .before .before .before .before .before) in omega (arith, k .weights)
-
-part-store-one-end-2 : tie.Need-part-store-one-end-2 Inv-loop μ-loop
-part-store-one-end-2 c = let k = place (c .before .before .before .before .before .before .before) in omega (arith, k .literals)
 
 store-one-requires : tie.Need-store-one-requires Inv-loop μ-loop
 store-one-requires c κs =
@@ -73,10 +61,13 @@ returns c =
     all-stored (b .pre .lim) (length (b .args .area .now)) (b .args .n) (cols b) (b .pre .fitting) (b .pre .accepted) (b .args .area .now) (c .before .before .before .before .clear .last .0) (c .before .loop .area) (c .before .loop .s) (c .before .loop .from) (omega arith) (c .before .before .before .before .clear .ensures) (c .before .loop .inv .2)
 
 pub store-all-spec : {M : Type 1} → statement M
-store-all-spec = tie.close
-    (tie.spec
-    Inv-loop μ-loop (λ c. search needs) (λ c. search needs) (λ c. search needs) clear-requires loop-holds (λ c. search needs) (λ c. search needs) add-to
+store-all-spec = tie.close (tie.spec
+    Inv-loop μ-loop (λ c. search needs) (λ c. search needs) (λ c. search needs)
+    (λ c κs. let k = c .before .before .before .before .before .before .pre .accepted in (omega arith, omega (arith, k .enough))) loop-holds
+    (λ c. search needs) (λ c. search needs) (λ c. let k = place (c .before) in omega (arith, k .weights)) (λ c. search needs) (λ c. search needs)
     (λ c. search needs) (λ c. search needs) (λ c. search needs) (λ c. search needs) (λ c. search needs) (λ c. search needs) (λ c. search needs)
-    (λ c. search needs) (λ c. search needs) (λ c. search needs) (λ c. search needs) part-store-one-end (λ c. search needs) (λ c. search needs)
-    (λ c. search needs) part-store-one-end-2 store-one-requires (λ c. search needs) (λ c. search needs) loop-again
-    (λ c. c .before .loop .inv .2 .size ∙ c .before .before .before .before .clear .kept .0) returns)
+    (λ c. search needs) (λ c. search needs) (λ c. let k = place (c .before .before .before .before .before .before) in omega (arith, k .weights))
+    (λ c. search needs) (λ c. search needs) (λ c. search needs)
+    (λ c. let k = place (c .before .before .before .before .before .before .before) in omega (arith, k .literals)) store-one-requires
+    (λ c. search needs) (λ c. search needs) loop-again (λ c. c .before .loop .inv .2 .size ∙ c .before .before .before .before .clear .kept .0)
+    returns)

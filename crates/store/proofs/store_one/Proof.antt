@@ -25,15 +25,6 @@ number-word-requires c κs =
     let b = c .before .before .before .before .before in
     subst (λ (z : ℤ). natAbs z ≤ 1000000000000000000) (sym (toZ-ofZ w64 (b .args .bound) (b .fits .bound))) (fits b .bound-near)
 
-mul-put-four : tie.Need-mul-put-four
-mul-put-four c = let k = fits (c .before .before .before .before .before .before .before) in omega (arith, k .kind-low, k .side-low)
-
-add-put-four : tie.Need-add-put-four
-add-put-four c = let k = fits (c .before .before .before .before .before .before .before) in omega (arith, k .kind-low, k .side-low)
-
-add-put-four-2 : tie.Need-add-put-four-2
-add-put-four-2 c = let k = fits (c .before .before .before .before .before .before .before) in omega (arith, k .kind-low, k .side-low)
-
 returns : tie.Need-returns
 returns c =
     let b = c .before .before .before .before .before .before .before .before .before .before .before .before .before .before in
@@ -48,8 +39,10 @@ returns c =
     (second .ensures)
 
 pub store-one-spec : {M : Type 1} → statement M
-store-one-spec = tie.close
-    (tie.spec
+store-one-spec = tie.close (tie.spec
     (λ c. search needs) (λ c. search needs) (λ c. search needs) (λ c. search needs) (λ c. search needs) (λ c. search needs) (λ c. search needs)
-    (λ c. search needs) merge-at-requires number-word-requires mul-put-four add-put-four add-put-four-2 (λ c κs. search needs) (λ c. search needs)
-    (λ c. search needs) (λ c. search needs) (λ c κs. search needs) (λ c. search needs) returns)
+    (λ c. search needs) merge-at-requires number-word-requires
+    (λ c. let k = fits (c .before .before .before .before .before .before .before) in omega (arith, k .kind-low, k .side-low))
+    (λ c. let k = fits (c .before .before .before .before .before .before .before) in omega (arith, k .kind-low, k .side-low))
+    (λ c. let k = fits (c .before .before .before .before .before .before .before) in omega (arith, k .kind-low, k .side-low))
+    (λ c κs. search needs) (λ c. search needs) (λ c. search needs) (λ c. search needs) (λ c κs. search needs) (λ c. search needs) returns)

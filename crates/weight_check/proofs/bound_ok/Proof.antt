@@ -10,6 +10,5 @@ returns : tie.Need-returns
 returns c = c .within .ensures ∙ of-element bound-fits (c .before .args .bound) (c .before .fits .bound)
 
 pub bound-ok-spec : {M : Type 1} → statement M
-bound-ok-spec = tie.close
-    (tie.spec
+bound-ok-spec = tie.close (tie.spec
     (λ c κs. search needs) returns)

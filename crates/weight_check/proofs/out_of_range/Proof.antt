@@ -15,6 +15,5 @@ returns-2 c = let t : c .bound-ok .result ≡ bound-fits (c .before .before .bef
     rw (sym (c .before .before .unfit .ensures) ∙ c .before .if1 .left) (ap not t)
 
 pub out-of-range-spec : {M : Type 1} → statement M
-out-of-range-spec = tie.close
-    (tie.spec
+out-of-range-spec = tie.close (tie.spec
     (λ c κs. search needs) returns (λ c κs. search needs) returns-2)

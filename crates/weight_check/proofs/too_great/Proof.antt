@@ -71,7 +71,6 @@ returns-2 c = let ws = c .before .before .args .weights .now in
     sym (le-ltb 1000000000000000000 (product-below (length ws) (λ k. natAbs (nth ws k))) (omega (arith, ap {A = ℕ} (λ n. product-below n (λ k. natAbs (nth ws k))) e)))
 
 pub too-great-spec : {M : Type 1} → statement M
-too-great-spec = tie.close
-    (tie.spec
+too-great-spec = tie.close (tie.spec
     Inv-loop μ-loop loop-holds (λ c. search needs) (λ c. search needs) (λ c κs. search needs) div-if1 returns mul-product (λ c. search needs)
     (λ c. search needs) loop-again returns-2)

@@ -40,7 +40,6 @@ returns-2 c =
     sym (c .before .loop .inv .1) ∙ ap {A = ℕ} (λ k. some-below k (λ j. not (weight-fits (kind-of (a .kind)) (nth (a .weights .now) j)))) e
 
 pub unfit-spec : {M : Type 1} → statement M
-unfit-spec = tie.close
-    (tie.spec
+unfit-spec = tie.close (tie.spec
     Inv-loop μ-loop (λ c κs. search needs) (λ c κs. search needs) loop-holds (λ c. search needs) (λ c. search needs) (λ c κs. search needs) returns
     (λ c. search needs) (λ c. search needs) loop-again returns-2)

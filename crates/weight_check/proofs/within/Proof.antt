@@ -28,6 +28,5 @@ returns-2 c =
     rw t
 
 pub within-spec : {M : Type 1} → statement M
-within-spec = tie.close
-    (tie.spec
+within-spec = tie.close (tie.spec
     returns returns-2)
