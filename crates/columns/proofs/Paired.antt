@@ -9,7 +9,7 @@ use lib.IntN.{ℤ, pos, negℤ, natAbs, _*ℤ_}
 use lib.ListN.{length}
 use Rattle.decide.specs.Below.{some-below, product-below}
 use Rattle.decide.proofs.Below.{product-front}
-use Rattle.meaning.specs.Meaning.{same, multiplied}
+use Rattle.meaning.specs.Meaning.{Entry, same, multiplied}
 use Rattle.area.specs.Whole.{weights-of}
 use Rattle.columns.specs.Columns.{paired}
 use Rattle.columns.specs.Refusals.{some, both-signs}
@@ -49,29 +49,32 @@ paired-length (w ∷ ws) (l ∷ ls) e = ap suc (paired-length ws ls (omega arith
 pub paired-weights : (ws ls : List ℤ) → length ws ≡ length ls → weights-of (paired ws ls) ≡ ws
 unfolding paired
 paired-weights [] ls e = refl
-paired-weights (w ∷ ws) [] e = let b : ⊥ = omega arith in absurd b
+paired-weights (w ∷ ws) [] e = absurd (omega arith)
 paired-weights (w ∷ ws) (l ∷ ls) e = ap (λ x. w ∷ x) (paired-weights ws ls (omega arith))
 
-module _ (p : ℤ → Bool) where
-  pub some-literal : (ws ls : List ℤ) → length ws ≡ length ls → some (λ e. p (e .literal)) (paired ws ls) ≡ some-below (length ls) (λ i. p (nth ls i))
-  unfolding some paired some-below
-  some-literal [] [] e = refl
-  some-literal [] (l ∷ ls) e = let b : ⊥ = omega arith in absurd b
-  some-literal (w ∷ ws) [] e = refl
-  some-literal (w ∷ ws) (l ∷ ls) e = ap (λ b. p l || b) (some-literal ws ls (omega arith)) ∙ sym (some-first (length ls) (λ i. p (nth (l ∷ ls) i)))
+-- a test of entries, by their places
+some-paired : (q : Entry → Bool) (ws ls : List ℤ) → length ws ≡ length ls → some q (paired ws ls) ≡ some-below (length ls) (λ i. q (record { weight = nth ws i; literal = nth ls i }))
+unfolding some paired some-below
+some-paired q [] [] e = refl
+some-paired q [] (l ∷ ls) e = absurd (omega arith)
+some-paired q (w ∷ ws) [] e = absurd (omega arith)
+some-paired q (w ∷ ws) (l ∷ ls) e =
+    ap (λ b. q (record { weight = w; literal = l }) || b) (some-paired q ws ls (omega arith))
+    ∙ sym (some-first (length ls) (λ i. q (record { weight = nth (w ∷ ws) i; literal = nth (l ∷ ls) i })))
 
-  pub some-weight : (ws ls : List ℤ) → length ws ≡ length ls → some (λ e. p (e .weight)) (paired ws ls) ≡ some-below (length ws) (λ i. p (nth ws i))
-  unfolding some paired some-below
-  some-weight [] ls e = refl
-  some-weight (w ∷ ws) [] e = let b : ⊥ = omega arith in absurd b
-  some-weight (w ∷ ws) (l ∷ ls) e = ap (λ b. p w || b) (some-weight ws ls (omega arith)) ∙ sym (some-first (length ws) (λ i. p (nth (w ∷ ws) i)))
+module _ (p : ℤ → Bool) (ws ls : List ℤ) (e : length ws ≡ length ls) where
+  pub some-literal : some (λ e. p (e .literal)) (paired ws ls) ≡ some-below (length ls) (λ i. p (nth ls i))
+  some-literal = some-paired (λ e. p (e .literal)) ws ls e
+
+  pub some-weight : some (λ e. p (e .weight)) (paired ws ls) ≡ some-below (length ws) (λ i. p (nth ws i))
+  some-weight = some-paired (λ e. p (e .weight)) ws ls e ∙ ap {A = ℕ} (λ k. some-below k (λ i. p (nth ws i))) (sym e)
 
 -- ---- both signs: of the first entry with a later one, or among the later ones
 
 pub both-signs-paired : (ws ls : List ℤ) → length ws ≡ length ls → both-signs (paired ws ls) ≡ negated ls
 unfolding both-signs paired some-below
 both-signs-paired [] [] e = refl
-both-signs-paired [] (l ∷ ls) e = let b : ⊥ = omega arith in absurd b
+both-signs-paired [] (l ∷ ls) e = absurd (omega arith)
 both-signs-paired (w ∷ ws) [] e = refl
 both-signs-paired (w ∷ ws) (l ∷ ls) e =
     let f : length ws ≡ length ls = omega arith in

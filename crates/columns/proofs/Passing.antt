@@ -29,10 +29,11 @@ use Rattle.columns.specs.Refusals.{some, no-atom, bound-fits, both-signs
 use Rattle.columns.specs.Indexed.{Passes}
 use Rattle.columns.proofs.Clauses.{none-holds, is-atom}
 
-none-of : (p : Entry → Bool) (es : List Entry) → some p es ≡ false → Each (λ e. p e ≡ false) es
+-- what an entry has that fails the test, each has where none passes it
+none-as : (p : Entry → Bool) (Q : Entry → Type 0) → ((e : Entry) → p e ≡ false → Q e) → (es : List Entry) → some p es ≡ false → Each Q es
 unfolding some
-none-of p [] h = tt
-none-of p (e ∷ es) h = (left-false (p e) (some p es) h, none-of p es (right-false (p e) (some p es) h))
+none-as p Q f [] h = tt
+none-as p Q f (e ∷ es) h = (f e (left-false (p e) (some p es) h), none-as p Q f es (right-false (p e) (some p es) h))
 
 -- ---- signs
 
@@ -47,9 +48,8 @@ unfolding both-signs
 one-signed [] h = tt
 one-signed (e ∷ es) h =
     let opposite = some (λ x. same (x .literal) (negℤ (e .literal))) es in (
-      each-map (λ x. same (x .literal) (negℤ (e .literal)) ≡ false) (λ x. place x ≡ place e → x .literal ≡ e .literal) es
-          (λ x f q. one-literal (x .literal) (e .literal) q (λ r. T-false f (eq→same (x .literal) (negℤ (e .literal)) r)))
-          (none-of (λ x. same (x .literal) (negℤ (e .literal))) es (left-false opposite (both-signs es) h)),
+      none-as (λ x. same (x .literal) (negℤ (e .literal))) (λ x. place x ≡ place e → x .literal ≡ e .literal)
+          (λ x f q. one-literal (x .literal) (e .literal) q (λ r. T-false f (eq→same (x .literal) (negℤ (e .literal)) r))) es (left-false opposite (both-signs es) h),
       one-signed es (right-false opposite (both-signs es) h),
     )
 
@@ -80,24 +80,21 @@ module _ (lim : Limits) (n : ℕ) (x : Written) (v : Passes lim n x) where
   head-atom = is-atom n (x .head) (left-false (no-atom n (x .head)) strangers (v .atoms))
 
   pub entry-atoms : Each (λ e. (1 ≤ place e) × (place e ≤ n)) (x .entries)
-  entry-atoms = each-map (λ e. no-atom n (place e) ≡ false) (λ e. (1 ≤ place e) × (place e ≤ n)) (x .entries) (λ e. is-atom n (place e))
-      (none-of (λ e. no-atom n (place e)) (x .entries) (right-false (no-atom n (x .head)) strangers (v .atoms)))
+  entry-atoms = none-as (λ e. no-atom n (place e)) _ (λ e. is-atom n (place e)) (x .entries) (right-false (no-atom n (x .head)) strangers (v .atoms))
 
   abbrev unfit : Bool
   unfit = some (λ e. not (weight-fits (kind-of (x .kind)) (e .weight))) (x .entries)
 
   pub entries-fit : Each (λ e. T (weight-fits (kind-of (x .kind)) (e .weight))) (x .entries)
   entries-fit =
-      each-map (λ e. not (weight-fits (kind-of (x .kind)) (e .weight)) ≡ false) (λ e. T (weight-fits (kind-of (x .kind)) (e .weight))) (x .entries)
-      (λ e f. T-true (not-false (weight-fits (kind-of (x .kind)) (e .weight)) f))
-      (none-of (λ e. not (weight-fits (kind-of (x .kind)) (e .weight))) (x .entries) (left-false unfit (not (bound-fits (x .bound))) (v .ranges)))
+      none-as (λ e. not (weight-fits (kind-of (x .kind)) (e .weight))) _ (λ e f. T-true (not-false (weight-fits (kind-of (x .kind)) (e .weight)) f)) (x .entries)
+      (left-false unfit (not (bound-fits (x .bound))) (v .ranges))
 
   pub bound-within : T (bound-fits (x .bound))
   bound-within = T-true (not-false (bound-fits (x .bound)) (right-false unfit (not (bound-fits (x .bound))) (v .ranges)))
 
   pub entries-headless : Each (λ e. ¬ (place e ≡ x .head)) (x .entries)
-  entries-headless = each-map (λ e. eqb (place e) (x .head) ≡ false) (λ e. ¬ (place e ≡ x .head)) (x .entries) (λ e. eqb-false (place e) (x .head))
-      (none-of (λ e. eqb (place e) (x .head)) (x .entries) (v .headless))
+  entries-headless = none-as (λ e. eqb (place e) (x .head)) _ (λ e. eqb-false (place e) (x .head)) (x .entries) (v .headless)
 
   pub entries-unmixed : T (not (mixes (kind-of (x .kind)))) → both-signs (x .entries) ≡ false
   entries-unmixed t = and-false (not (mixes (kind-of (x .kind)))) (both-signs (x .entries)) (v .unmixed) t
