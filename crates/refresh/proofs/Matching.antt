@@ -1,7 +1,7 @@
 -- A refreshed sentence matches the trail as it now is. An untouched one has the bounds, and says, what it had and said before: all its
 -- atoms stand as they stood. A renewed one has the extremes of the values, which show the trail, and is marked.
-use mathlib.Core.Path.{_≡_, sym, ap, _∙_, subst}
-use mathlib.Core.Bool.{false, true≢false}
+use mathlib.Core.Path.{_≡_, sym, ap, _∙_}
+use mathlib.Core.Bool.{true≢false}
 use mathlib.Core.List.{List}
 use Prim.Native.Nat.{ℕ, _≤_}
 use lib.IntN.{ℤ}
@@ -9,13 +9,13 @@ use lib.Dec.{leb}
 use Rattle.types.specs.declared.Limits.{Limits}
 use Rattle.numbers.specs.Extended.{up, down}
 use Rattle.numbers.specs.Words.{word as word-of}
-use Rattle.meaning.specs.Meaning.{place, Each, silent}
+use Rattle.meaning.specs.Meaning.{place, Each}
 use Rattle.meaning.specs.Merge.{Rule, scope}
 use Rattle.meaning.specs.Computed.{standing, extreme, says}
 use Rattle.meaning.proofs.Gather.{each-map}
 use Rattle.meaning.proofs.Members.{each-both, places-each}
 use Rattle.meaning.proofs.Standing.{SameStanding, extreme-standing, says-standing}
-use Rattle.area.specs.Layout.{word, least-at, greatest-at, pending-at, rule-at}
+use Rattle.area.specs.Layout.{word, rule-at}
 use Rattle.area.specs.Whole.{EntryWhole, RuleWhole}
 use Rattle.extremes.specs.Stored.{Shows}
 use Rattle.whole.specs.Parts.{Matching}
@@ -28,17 +28,6 @@ scope-inside lim n r o = (
   places-each (λ a. (1 ≤ a) × (a ≤ n)) (r .set .entries)
       (each-map (EntryWhole n (r .head) (r .kind) (r .written)) (λ e. (1 ≤ place e) × (place e ≤ n)) (r .set .entries) (λ e h. (h .atom-low, h .atom-high)) (o .entries)),
 )
-
--- what the words at b match on a trail, where the rule is r
-abbrev Matches : List ℕ → ℕ → Rule → List ℤ → Type 0
-Matches w b r t =
-    (least-at w b ≡ word-of (extreme down r t)) × (greatest-at w b ≡ word-of (extreme up r t)) × (pending-at w b ≡ false → says r t ≡ silent)
-
-matching-of : (w : List ℕ) (n S b : ℕ) (t : List ℤ) → Matches w b (rule-at w n S b) t → Matching w n S b t
-matching-of w n S b t m = record { bounds = record { least = m .0; greatest = m .1 }; quiet = m .2 }
-
-matches-of : (w : List ℕ) (n S b : ℕ) (t : List ℤ) → Matching w n S b t → Matches w b (rule-at w n S b) t
-matches-of w n S b t m = (m .bounds .least, m .bounds .greatest, m .quiet)
 
 -- ---- an untouched sentence
 
@@ -53,21 +42,23 @@ module _ (n : ℕ) (touched : List ℕ) (t t′ : List ℤ)
   pub untouched-matches : (lim : Limits) (w w′ : List ℕ) (S b : ℕ) → rule-at w′ n S b ≡ rule-at w n S b → RuleWhole lim n (rule-at w n S b)
       → Each (λ a. word touched a ≡ 0) (scope (rule-at w n S b)) → AsBefore w w′ b → Matching w n S b t → Matching w′ n S b t′
   untouched-matches lim w w′ S b e o h a m =
-      let x = matches-of w n S b t m in
       let r = rule-at w n S b in
       let q = scope-stands lim r o h in
-      matching-of w′ n S b t′ (subst (λ (r : Rule). Matches w′ b r t′) (sym e) (
-        a .least ∙ x .0 ∙ ap word-of (extreme-standing down r t t′ q),
-        a .greatest ∙ x .1 ∙ ap word-of (extreme-standing up r t t′ q),
-        λ p. sym (says-standing r t t′ q) ∙ x .2 (ap {A = ℕ} (leb 16) (sym (a .tag)) ∙ p),
-      ))
+      record {
+        bounds = record {
+          least = a .least ∙ m .bounds .least ∙ ap word-of (extreme-standing down r t t′ q) ∙ ap {A = Rule} (λ x. word-of (extreme down x t′)) (sym e);
+          greatest = a .greatest ∙ m .bounds .greatest ∙ ap word-of (extreme-standing up r t t′ q) ∙ ap {A = Rule} (λ x. word-of (extreme up x t′)) (sym e);
+        };
+        quiet = λ p. ap {A = Rule} (λ x. says x t′) e ∙ sym (says-standing r t t′ q) ∙ m .quiet (ap {A = ℕ} (leb 16) (sym (a .tag)) ∙ p);
+      }
 
 -- ---- a renewed sentence
 
 pub renewed-matches : (w w′ : List ℕ) (n S b : ℕ) (t : List ℤ) → rule-at w′ n S b ≡ rule-at w n S b → Shows w n t → Renewed w w′ n S b → Matching w′ n S b t
-renewed-matches w w′ n S b t e sh r =
-    matching-of w′ n S b t (subst (λ (x : Rule). Matches w′ b x t) (sym e) (
-      r .extremes .least-is t sh,
-      r .extremes .greatest-is t sh,
-      λ p. absurd (true≢false (sym (r .marked) ∙ p)),
-    ))
+renewed-matches w w′ n S b t e sh r = record {
+  bounds = record {
+    least = r .extremes .least-is t sh ∙ ap {A = Rule} (λ x. word-of (extreme down x t)) (sym e);
+    greatest = r .extremes .greatest-is t sh ∙ ap {A = Rule} (λ x. word-of (extreme up x t)) (sym e);
+  };
+  quiet = λ p. absurd (true≢false (sym (r .marked) ∙ p));
+}

@@ -3,10 +3,9 @@
 use mathlib.Core.Path.{_≡_, refl, sym, ap, _∙_, subst}
 use mathlib.Core.Logic.{_⊎_, inl, inr, ⊎-elim}
 use mathlib.Core.List.{List}
-use Prim.Native.Nat.{ℕ, _+_, _*_, _<_, _≤_}
+use Prim.Native.Nat.{ℕ, _+_, _<_, _≤_}
 use native.Mathlib.Omega.{arith}
 use native.Mathlib.Nat.{eq-or-lt-of-le}
-use lib.ListN.{length}
 use lib.Dec.{leb}
 use Rattle.types.specs.declared.Limits.{Limits}
 use Rattle.numbers.specs.Extended.{up, down}
@@ -22,18 +21,11 @@ use Rattle.theory_check.proofs.Places.{placed}
 use Rattle.whole.specs.Same.{SameRecord}
 use Rattle.whole.proofs.Frame.{same-record, record-through, SameEntries, entries-behind, rule-same, sentence-same}
 use Rattle.whole.proofs.Trails.{shows-stay}
-use Rattle.refresh.specs.Refresh.{Refreshable, Untouched, AsBefore, Renewed, SentenceRefreshed, Refreshed}
+use Rattle.refresh.specs.Refresh.{Refreshable, Untouched, AsBefore, Renewed, SentenceRefreshed, RefreshedTo}
 use Rattle.refresh.specs.One.{Touchable, OneRefreshed}
 
--- the first s sentences are refreshed
-pub record Passed (w w′ : List ℕ) (n S : ℕ) (touched : List ℕ) (s : ℕ) : Type 0 where
-  pub size : length w′ ≡ length w
-  pub front : (i : ℕ) → i < 4 * n → word w′ i ≡ word w i
-  pub rest : (i : ℕ) → record-at n s ≤ i → word w′ i ≡ word w i
-  pub each : (k : ℕ) → k < s → SentenceRefreshed w w′ n S (record-at n k) touched
-
-pub none-passed : (w : List ℕ) (n S : ℕ) (touched : List ℕ) → Passed w w n S touched 0
-none-passed w n S touched = record { size = refl; front = λ i l. refl; rest = λ i l. refl; each = λ k l. absurd (omega arith) }
+pub none-passed : {w : List ℕ} {n S : ℕ} {touched : List ℕ} → RefreshedTo w w n S touched 0
+none-passed = record { size = refl; front = λ i l. refl; behind = λ i l. refl; each = λ k l. absurd (omega arith) }
 
 -- ---- a sentence that was refreshed, after its words are left alone
 
@@ -61,16 +53,16 @@ module _ (w w′ w″ : List ℕ) (n S b : ℕ) (touched : List ℕ) (same : (i 
 
 -- ---- the next sentence, whose words are those of the start
 
-module _ (lim : Limits) (w w′ : List ℕ) (n S : ℕ) (touched : List ℕ) (s : ℕ)
-    (ready : Refreshable lim w n S touched) (p : Passed w w′ n S touched s) (next : s < S) where
+module _ {lim : Limits} {w w′ : List ℕ} {n S : ℕ} {touched : List ℕ} {s : ℕ}
+    (ready : Refreshable lim w n S touched) (p : RefreshedTo w w′ n S touched s) (next : s < S) where
   abbrev b : ℕ
   b = record-at n s
 
   same : SameRecord w w′ b
-  same = same-record w w′ b (λ i l h. p .rest i l) (ready .each s next .tag)
+  same = same-record w w′ b (λ i l h. p .behind i l) (ready .each s next .tag)
 
   entries : SameEntries w w′ n S b
-  entries = entries-behind w w′ n S b (p .size) (λ i h. p .rest i (omega arith))
+  entries = entries-behind w w′ n S b (p .size) (λ i h. p .behind i (omega arith))
 
   rule-stays : rule-at w′ n S b ≡ rule-at w n S b
   rule-stays = rule-same w w′ n S b same entries
@@ -105,7 +97,7 @@ module _ (lim : Limits) (w w′ : List ℕ) (n S : ℕ) (touched : List ℕ) (s 
     greatest-is = λ t sh. e .greatest-is t (shows-stay w w′ n (p .front) t sh) ∙ ap {A = Rule} (λ x. word-of (extreme up x t)) rule-stays;
   }
 
-  module _ (w″ : List ℕ) (one : OneRefreshed w′ w″ n S b touched) where
+  module _ {w″ : List ℕ} (one : OneRefreshed w′ w″ n S b touched) where
     here : SentenceRefreshed w w″ n S b touched
     here = record { same = record-through w w′ w″ b same (one .refreshed .same); how = go (one .refreshed .how) }
       where
@@ -114,28 +106,20 @@ module _ (lim : Limits) (w w′ : List ℕ) (n S : ℕ) (touched : List ℕ) (s 
             inl (
               subst (λ (r : Rule). Each (λ a. word touched a ≡ 0) (scope r)) rule-stays (q .0),
               record {
-                tag = q .1 .tag ∙ p .rest (b + 1) (omega arith);
-                least = q .1 .least ∙ p .rest (b + 4) (omega arith);
-                greatest = q .1 .greatest ∙ p .rest (b + 5) (omega arith);
+                tag = q .1 .tag ∙ p .behind (b + 1) (omega arith);
+                least = q .1 .least ∙ p .behind (b + 4) (omega arith);
+                greatest = q .1 .greatest ∙ p .behind (b + 5) (omega arith);
               },
             )
         go (inr q) = inr (record { marked = q .marked; extremes = extremes-stay _ (q .extremes) })
 
-    pub one-passed : Passed w w″ n S touched (s + 1)
+    pub one-passed : RefreshedTo w w″ n S touched (s + 1)
     one-passed = record {
       size = one .size ∙ p .size;
       front = λ i l. one .below i (omega arith) ∙ p .front i l;
-      rest = λ i l. one .behind i (omega arith) ∙ p .rest i (omega arith);
+      behind = λ i l. one .behind i (omega arith) ∙ p .behind i (omega arith);
       each = λ k l. ⊎-elim
           (λ (e : k ≡ s). subst (λ (j : ℕ). SentenceRefreshed w w″ n S (record-at n j) touched) (sym e) here)
           (λ (m : k < s). refreshed-stays w w′ w″ n S (record-at n k) touched (λ i h u. one .below i (omega arith)) (p .each k m))
           (eq-or-lt-of-le (omega arith));
     }
-
-pub all-passed : (w w′ : List ℕ) (n S : ℕ) (touched : List ℕ) (s : ℕ) → s ≡ S → Passed w w′ n S touched s → Refreshed w w′ n S touched
-all-passed w w′ n S touched s e p = record {
-  size = p .size;
-  front = p .front;
-  behind = λ i l. p .rest i (omega arith);
-  each = λ k l. p .each k (omega arith);
-}

@@ -4,7 +4,7 @@ use mathlib.Core.Path.{_≡_}
 use mathlib.Core.Bool.{true}
 use mathlib.Core.Logic.{_⊎_}
 use mathlib.Core.List.{List}
-use Prim.Native.Nat.{ℕ, _+_, _*_, _<_, _≤_}
+use Prim.Native.Nat.{ℕ, _*_, _<_, _≤_}
 use lib.ListN.{length}
 use Rattle.types.specs.declared.Limits.{Limits}
 use Rattle.types.specs.Limits.{Fitting}
@@ -42,8 +42,12 @@ pub record SentenceRefreshed (w w′ : List ℕ) (n S b : ℕ) (touched : List �
   pub same : SameRecord w w′ b
   pub how : (Untouched w n S b touched × AsBefore w w′ b) ⊎ Renewed w w′ n S b
 
-pub record Refreshed (w w′ : List ℕ) (n S : ℕ) (touched : List ℕ) : Type 0 where
+-- the first s sentences
+pub record RefreshedTo (w w′ : List ℕ) (n S : ℕ) (touched : List ℕ) (s : ℕ) : Type 0 where
   pub size : length w′ ≡ length w
   pub front : (i : ℕ) → i < 4 * n → word w′ i ≡ word w i
-  pub behind : (i : ℕ) → 4 * n + 8 * S ≤ i → word w′ i ≡ word w i
-  pub each : (s : ℕ) → s < S → SentenceRefreshed w w′ n S (record-at n s) touched
+  pub behind : (i : ℕ) → record-at n s ≤ i → word w′ i ≡ word w i
+  pub each : (k : ℕ) → k < s → SentenceRefreshed w w′ n S (record-at n k) touched
+
+abbrev pub Refreshed : List ℕ → List ℕ → ℕ → ℕ → List ℕ → Type 0
+Refreshed w w′ n S touched = RefreshedTo w w′ n S touched S

@@ -10,15 +10,15 @@ fn touches(area: &[u64], n: usize, count: usize, base: usize, touched: &[u8]) ->
     requires { ⌜ TouchReady (now area) n count base (now touched) ⌝ }
     ensures { λ r. ⌜ Tells (not r) (Untouched (now (area .entry)) n count base (now (touched .entry))) ⌝ }
 {
-    let head = area[base] as usize;
+    let head = area::head_at(area, base) as usize;
     if touched[head] != 0 {
         return true;
     }
-    let start = 4 * n + 8 * count + 2 * area[base + 6] as usize;
-    let merged = (area[base + 7] / 65536) as usize;
+    let start = area::entry_at(area, n, count, base);
+    let merged = area::merged_at(area, base);
     let mut i: usize = 0;
     while i < merged {
-        let a = (area[start + 2 * i + 1] / 2) as usize;
+        let a = (area::literal_in(area, start, i) / 2) as usize;
         if touched[a] != 0 {
             return true;
         }
@@ -36,10 +36,8 @@ fn refresh_one(area: &mut [u64], n: usize, count: usize, base: usize, touched: &
         return;
     }
     let found = extremes::extremes_of(area, n, count, base);
-    let tag = area[base + 1];
-    area[base + 4] = found.least;
-    area[base + 5] = found.greatest;
-    area[base + 1] = tag % 16 + 16;
+    area::set_pending(area, base);
+    area::set_bounds(area, base, found.least, found.greatest);
 }
 
 // All sentences, after the values of the touched atoms changed. `touched` has a word for each atom, not 0 where its value changed.
