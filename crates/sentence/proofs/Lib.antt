@@ -9,6 +9,5 @@ pub mod Dues
 pub mod OpenHead
 pub mod FixedHead
 pub mod Turnings
-pub mod Results
 pub mod Unscanned
 pub mod Unspoken

@@ -138,11 +138,7 @@ module _ (k : Kind) (n : ℕ) (u : Bool) (v : ℕ → ℕ) where
   pub put-swaps : {w l : ℕ} {words : List ℕ} → Member w l words → Legal k n words → Once (entries-of words) → v (l / 2) ≡ 0
       → (o y : ℕ) → o / 2 ≡ l / 2 → reach-word u (empty-word k) w l (1 + o % 2) ≡ y
       → Swapped (furthest-word u w (empty-word k)) y (contributions k u v words) (contributions k u (put v o) words)
-  put-swaps {w} {l} {words} e g d open-is o y a is =
-      let was : reach-word u (empty-word k) w l (v (l / 2)) ≡ furthest-word u w (empty-word k) = rw open-is in
-      subst (λ z. Swapped (furthest-word u w (empty-word k)) y (contributions k u v words) (contributions k u (with-value v z (1 + o % 2)) words)) (sym a)
-      (subst (λ z. Swapped (furthest-word u w (empty-word k)) z (contributions k u v words) (contributions k u (with-value v (l / 2) (1 + o % 2)) words)) is
-      (subst (λ z. Swapped z (reach-word u (empty-word k) w l (1 + o % 2)) (contributions k u v words) (contributions k u (with-value v (l / 2) (1 + o % 2)) words)) was (swap-at (1 + o % 2) e g d)))
+  put-swaps e g d open-is o y a is = rw (a, ← is) (rw open-is at (swap-at (1 + o % 2) e g d))
 
 -- ---- the wanted literal
 
@@ -173,22 +169,13 @@ wanted-is u empty w l h = go (eqb x w) refl (sides u w empty)
     x : ℕ
     x = furthest-word u w empty
 
-    picked : (c : Bool) → eqb x w ≡ c → wanted-word u empty w l ≡ cond c l (opposite-word l)
-    picked c e = rw e
-
     go : (c : Bool) → eqb x w ≡ c → ((x ≡ w) × (nearest-word u w empty ≡ empty)) ⊎ ((x ≡ empty) × (nearest-word u w empty ≡ w)) → Wanted u empty w l (wanted-word u empty w l)
     go true e s =
         let q : x ≡ w = eqb-true x w e in
         let near : nearest-word u w empty ≡ empty = ⊎-elim (λ z. z .1) (λ z. z .1 ∙ sym q ∙ z .0) s in
-        subst (Wanted u empty w l) (sym (picked true e))
-        (record { real = h; atom = refl; gives = own-reach u empty w l ∙ sym q; loses = opposite-reach u empty w l (opposite-word l) (opposite l h) ∙ sym near })
+        rw e (record { real = h; atom = refl; gives = own-reach u empty w l ∙ sym q; loses = opposite-reach u empty w l (opposite-word l) (opposite l h) ∙ sym near })
     go false e s =
         let q : (x ≡ empty) × (nearest-word u w empty ≡ w) = ⊎-elim (λ z. absurd (eqb-false x w e (z .0))) (λ z. z) s in
         let back : reach-word u empty w l (1 + opposite-word (opposite-word l) % 2) ≡ w = rw (opposite-twice l h) (own-reach u empty w l) in
-        subst (Wanted u empty w l) (sym (picked false e))
-        (record {
-          real = opposite l h .real;
-          atom = opposite l h .atom;
-          gives = opposite-reach u empty w l (opposite-word l) (opposite l h) ∙ sym (q .0);
-          loses = back ∙ sym (q .1);
-        })
+        rw e
+        (record { real = opposite l h .real; atom = opposite l h .atom; gives = opposite-reach u empty w l (opposite-word l) (opposite l h) ∙ sym (q .0); loses = back ∙ sym (q .1) })
