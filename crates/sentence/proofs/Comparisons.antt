@@ -1,6 +1,6 @@
 -- A sentence's comparison at an extreme: that it has a truth there is that the extreme's word reaches, or does not reach, the limit.
 use mathlib.Core.Path.{_≡_, refl, sym, _∙_, ap}
-use mathlib.Core.Bool.{Bool, true, false, not, Bool·beq}
+use mathlib.Core.Bool.{Bool, true, false, not, cond, Bool·beq, Bool·not-not}
 use mathlib.Core.Logic.{⊎-elim}
 use mathlib.Core.List.{List}
 use Prim.Native.Nat.{ℕ, _+_, _≤_, _<_}
@@ -31,17 +31,11 @@ below-limit bound e =
     (λ (p : bound < e). lt-leb e bound p ∙ sym (ap not (le-leb (bound + 1) e (omega arith))))
     (cases bound e)
 
-not-not : (b : Bool) → not (not b) ≡ b
-not-not true = refl
-not-not false = refl
-
-beq-true : (b : Bool) → Bool·beq true b ≡ b
-beq-true true = refl
-beq-true false = refl
-
-beq-false : (b : Bool) → Bool·beq false b ≡ not b
-beq-false true = refl
-beq-false false = refl
+beq-is : (b x : Bool) {y : Bool} → x ≡ y → Bool·beq b x ≡ cond b y (not y)
+beq-is true true p = p
+beq-is true false p = p
+beq-is false true p = ap not p
+beq-is false false p = ap not p
 
 module _ (bound e : ℕ) (low : 0 < bound) (high : bound < top) (within : e ≤ top) where
   lower-is : comparison m.lower (unbias bound) (unword e) ≡ leb bound e
@@ -51,10 +45,10 @@ module _ (bound e : ℕ) (low : 0 < bound) (high : bound < top) (within : e ≤ 
   upper-is = ap (leE (unword e)) (sym (unword-at bound low high)) ∙ word-leb e bound within
 
   keeps-is : (upper b : Bool) → Bool·beq b (comparison (sided upper) (unbias bound) (unword e)) ≡ keeps (upwards upper b) (limit-word upper bound) e
-  keeps-is true true = ap (Bool·beq true) upper-is ∙ beq-true (leb e bound) ∙ below-limit bound e
-  keeps-is true false = ap (Bool·beq false) upper-is ∙ beq-false (leb e bound) ∙ ap not (below-limit bound e) ∙ not-not (leb (bound + 1) e)
-  keeps-is false true = ap (Bool·beq true) lower-is ∙ beq-true (leb bound e)
-  keeps-is false false = ap (Bool·beq false) lower-is ∙ beq-false (leb bound e)
+  keeps-is true true = beq-is true _ (upper-is ∙ below-limit bound e)
+  keeps-is true false = beq-is false _ (upper-is ∙ below-limit bound e) ∙ Bool·not-not (leb (bound + 1) e)
+  keeps-is false true = beq-is true _ lower-is
+  keeps-is false false = beq-is false _ lower-is
 
 towards-is : (upper b : Bool) → towards (sided upper) b ≡ direction (upwards upper b)
 towards-is true true = refl

@@ -18,10 +18,6 @@ pub said-cond : (b : Bool) (x y : Said) → said-of (cond b x y) ≡ cond b (sai
 said-cond true x y = refl
 said-cond false x y = refl
 
-pub and-false : (b : Bool) → (b && false) ≡ false
-and-false true = refl
-and-false false = refl
-
 -- neither literal of the atom is due
 pub passed-over : (r : Rule) (t : List ℤ) (a : ℕ) (rest : List ℕ) → due r t (pos a) ≡ false → due r t (negℤ (pos a)) ≡ false → first-due r t (a ∷ rest) ≡ first-due r t rest
 unfolding first-due

@@ -2,7 +2,7 @@
 -- it. Otherwise an open entry's wanted literal leaves the extreme as it is, so that only its opposite can be refuted: by the entry's
 -- contribution replaced, which cannot be where the other extreme or the second best keeps the truth.
 use mathlib.Core.Path.{_≡_, refl, sym, _∙_, ap}
-use mathlib.Core.Bool.{Bool, true, false, not, cond, _&&_, true≢false}
+use mathlib.Core.Bool.{Bool, true, false, not, cond, _&&_, and-false}
 use mathlib.Core.Logic.{inl, inr}
 use mathlib.Core.List.{List, [], _∷_}
 use Prim.Native.Nat.{ℕ, _+_, _/_, _%_, _≤_}
@@ -27,12 +27,12 @@ use Rattle.extremes.specs.Stored.{standing-word}
 use Rattle.sentence.specs.Sentence.{said-of}
 use Rattle.extremes.specs.Words.{empty-word, start-word, furthest-word, nearest-word, contributions, folded, extreme-word}
 use Rattle.sentence.specs.Words.{best-kind, second-best, second-word, limit-word, upwards, keeps, turns-word, opposite-word, wanted-word, scanned, leaves-second, entries-say, body-says}
-use Rattle.extremes.proofs.Contributions.{literal-place, ShowsIn}
-use Rattle.sentence.proofs.Swaps.{Swapped, same-swap}
-use Rattle.sentence.proofs.Turns.{turned-loses, second-silent}
+use Rattle.extremes.proofs.Contributions.{literal-place, Proper, ShowsIn}
+use Rattle.sentence.proofs.Swaps.{same-swap}
+use Rattle.sentence.proofs.Turns.{turned-loses}
 use Rattle.sentence.proofs.Ranges.{Agreeing, range-keeps}
-use Rattle.sentence.proofs.Puts.{opposite, opposite-literal, value-other, put, put-shows, Member, first, later, member-proper, member-off, put-swaps, wanted-is}
-use Rattle.sentence.proofs.Dues.{said-cond, and-false, passed-over, one-literal, set-undue, free-due}
+use Rattle.sentence.proofs.Puts.{Opposite, opposite, opposite-literal, value-other, put, put-shows, Member, first, later, member-proper, member-off, put-swaps, Wanted, wanted-is}
+use Rattle.sentence.proofs.Dues.{said-cond, passed-over, one-literal, set-undue, free-due}
 use Rattle.extremes.proofs.Sound.{rule-words, Sound}
 use Rattle.sentence.proofs.Comparisons.{kept-at}
 
@@ -54,14 +54,16 @@ scan-silent k u v [] = refl
 scan-silent k u v (w ∷ []) = refl
 scan-silent k u v (w ∷ l ∷ rest) = ap (λ c. cond c (Forced (wanted-word u (empty-word k) w l)) (scan-by k u v (λ w. false) rest)) (and-false (eqb (v (l / 2)) 0)) ∙ scan-silent k u v rest
 
-leaves-best : (k : Kind) (u : Bool) → leaves-second k u ≡ true → best-kind u ≡ k
-leaves-best Sum u e = absurd (true≢false (sym e))
-leaves-best Product u e = absurd (true≢false (sym e))
-leaves-best Count u e = absurd (true≢false (sym e))
-leaves-best Max true e = refl
-leaves-best Max false e = absurd (true≢false (sym e))
-leaves-best Min true e = absurd (true≢false (sym e))
-leaves-best Min false e = refl
+-- the second best is of the kind's own contributions, where it counts
+second-same : (k : Kind) (u : Bool) (limit : ℕ) (v : ℕ → ℕ) (ws : List ℕ)
+    → (leaves-second k u && keeps u limit (second-best u (empty-word (best-kind u)) (empty-word (best-kind u)) (contributions k u v ws))) ≡ (leaves-second k u && keeps u limit (second-word u v ws))
+second-same Sum u limit v ws = refl
+second-same Product u limit v ws = refl
+second-same Count u limit v ws = refl
+second-same Max true limit v ws = refl
+second-same Max false limit v ws = refl
+second-same Min true limit v ws = refl
+second-same Min false limit v ws = refl
 
 limit-small : (upper : Bool) (bound : ℕ) → bound + 1 ≤ top → limit-word upper bound ≤ top
 limit-small true bound h = h
@@ -110,58 +112,44 @@ module _ {n : ℕ} {k : Kind} {bound c head : ℕ} {words : List ℕ} (sound : S
   -- ---- one open entry
 
   module _ {w l : ℕ} (e : Member w l words) (open-is : v (l / 2) ≡ 0) where
-    literal-low : 2 ≤ l
-    literal-low = member-proper k n e (sound .legal) .literal
+    proper : Proper k n w l
+    proper = member-proper k n e (sound .legal)
+
+    g : Wanted u (empty-word k) w l (wanted w l)
+    g = wanted-is u (empty-word k) w l (proper .literal)
+
+    other : Opposite (wanted w l) (opposite-word (wanted w l))
+    other = opposite (wanted w l) (g .real)
 
     unturned : E (put v (wanted w l)) ≡ E v
-    unturned =
-        let g = wanted-is u (empty-word k) w l literal-low in
-        ap (folded k (start-word k c)) (sym (same-swap (put-swaps k n u v e (sound .legal) (sound .once) open-is (wanted w l) (furthest-word u w (empty-word k)) (g .atom) (g .gives))))
-
-    swapped : Swapped (furthest-word u w (empty-word k)) (nearest-word u w (empty-word k)) (contributions k u v words) (contributions k u (put v (opposite-word (wanted w l))) words)
-    swapped =
-        let g = wanted-is u (empty-word k) w l literal-low in
-        put-swaps k n u v e (sound .legal) (sound .once) open-is (opposite-word (wanted w l)) (nearest-word u w (empty-word k)) (opposite (wanted w l) (g .real) .atom ∙ g .atom) (g .loses)
+    unturned = ap (folded k (start-word k c)) (sym (same-swap (put-swaps k n u v e (sound .legal) (sound .once) open-is (wanted w l) (furthest-word u w (empty-word k)) (g .atom) (g .gives))))
 
     entry-free : standing t (atom (literal-of (wanted w l))) ≡ free
-    entry-free =
-        let g = wanted-is u (empty-word k) w l literal-low in
-        ap (standing t) (literal-place (wanted w l) (g .real) ∙ g .atom)
-        ∙ sh (l / 2) (omega (arith, literal-low)) (member-proper k n e (sound .legal) .atom-high) ∙ ap standing-word open-is
+    entry-free = ap (standing t) (literal-place (wanted w l) (g .real) ∙ g .atom) ∙ sh (l / 2) (omega (arith, proper .literal)) (proper .atom-high) ∙ ap standing-word open-is
 
     due-wanted : due R t (literal-of (wanted w l)) ≡ not (keeps u limit (turned w l))
     due-wanted =
-        let g = wanted-is u (empty-word k) w l literal-low in
-        let o = opposite (wanted w l) (g .real) in
-        free-due R t (literal-of (wanted w l)) entry-free
-        ∙ ap (λ z. refuted R (z ∷ t)) (sym (opposite-literal (wanted w l) (g .real)))
-        ∙ entry-refuted e (opposite-word (wanted w l)) (o .real) (o .atom ∙ g .atom)
+        free-due R t (literal-of (wanted w l)) entry-free ∙ ap (λ z. refuted R (z ∷ t)) (sym (opposite-literal (wanted w l) (g .real)))
+        ∙ entry-refuted e (opposite-word (wanted w l)) (other .real) (other .atom ∙ g .atom)
 
     due-opposite : keeps u limit (E v) ≡ true → due R t (negℤ (literal-of (wanted w l))) ≡ false
     due-opposite fine =
-        let g = wanted-is u (empty-word k) w l literal-low in
         free-due R t (negℤ (literal-of (wanted w l))) (ap (standing t) (opposite-atom (literal-of (wanted w l))) ∙ entry-free)
         ∙ ap (λ z. refuted R (z ∷ t)) (negℤ-negℤ (literal-of (wanted w l)))
-        ∙ entry-refuted e (wanted w l) (g .real) (g .atom)
-        ∙ ap (λ z. not (keeps u limit z)) unturned ∙ ap not fine
+        ∙ entry-refuted e (wanted w l) (g .real) (g .atom) ∙ ap (λ z. not (keeps u limit z)) unturned ∙ ap not fine
 
-    -- the three ways to know whether the entry turns
-    turned-test : keeps u limit (E v) ≡ true → (leaves-second k u && keeps u limit (second-word u v words)) ≡ false → not (keeps u limit (turned w l)) ≡ turns-word k u limit (E v) w
-    turned-test fine q =
-        turned-loses k u limit c w small (member-proper k n e (sound .legal) .high) (member-proper k n e (sound .legal) .weight) swapped
+    -- the two ways to know whether the entry turns
+    turned-test : keeps u limit (E v) ≡ true
+        → not (keeps u limit (turned w l)) ≡ (not (leaves-second k u && keeps u limit (second-word u v words)) && turns-word k u limit (E v) w)
+    turned-test fine =
+        turned-loses k u limit c w small (proper .high) (proper .weight)
+        (put-swaps k n u v e (sound .legal) (sound .once) open-is (opposite-word (wanted w l)) (nearest-word u w (empty-word k)) (other .atom ∙ g .atom) (g .loses))
         (sound .rooms v u) (sound .rooms (put v (opposite-word (wanted w l))) u) fine
-        (λ h. ap (λ x. keeps u limit (second-best u (empty-word (best-kind u)) (empty-word (best-kind u)) (contributions x u v words))) (sym (leaves-best k u h)) ∙ ap (λ x. x && keeps u limit (second-word u v words)) (sym h) ∙ q)
-
-    turned-second : keeps u limit (E v) ≡ true → leaves-second k u ≡ true → keeps u limit (second-word u v words) ≡ true → not (keeps u limit (turned w l)) ≡ false
-    turned-second fine h q =
-        second-silent k u limit c w small (member-proper k n e (sound .legal) .high) swapped h fine
-        (ap (λ x. keeps u limit (second-best u (empty-word (best-kind u)) (empty-word (best-kind u)) (contributions x u v words))) (sym (leaves-best k u h)) ∙ q)
+        ∙ ap (λ x. not x && turns-word k u limit (E v) w) (second-same k u limit v words)
 
     turned-range : keeps u limit (extreme-word k (not u) v c words) ≡ true → not (keeps u limit (turned w l)) ≡ false
     turned-range h =
-        let g = wanted-is u (empty-word k) w l literal-low in
-        range-keeps k u limit c v (put v (opposite-word (wanted w l))) words
-        (put-agrees v (opposite-word (wanted w l)) (ap v (opposite (wanted w l) (g .real) .atom ∙ g .atom) ∙ open-is)) h
+        range-keeps k u limit c v (put v (opposite-word (wanted w l))) words (put-agrees v (opposite-word (wanted w l)) (ap v (other .atom ∙ g .atom) ∙ open-is)) h
 
   -- ---- the scan, by a test that tells of each open entry whether it turns
 
@@ -200,19 +188,20 @@ module _ {n : ℕ} {k : Kind} {bound c head : ℕ} {words : List ℕ} (sound : S
   -- ---- the answer
 
   entries-told : keeps u limit (E v) ≡ true → first-due R t (places (entries-of words)) ≡ said-of (cond (keeps u limit (extreme-word k (not u) v c words)) Silent (entries-say k u limit (E v) v words))
-  entries-told fine = go (keeps u limit (extreme-word k (not u) v c words)) refl (leaves-second k u) refl (keeps u limit (second-word u v words)) refl
+  entries-told fine = go (keeps u limit (extreme-word k (not u) v c words)) refl (leaves-second k u && keeps u limit (second-word u v words)) refl
     where
       quiet : ((w l : ℕ) → Member w l words → v (l / 2) ≡ 0 → not (keeps u limit (turned w l)) ≡ false) → first-due R t (places (entries-of words)) ≡ m.silent
       quiet right = scan-all fine (λ w. false) right ∙ ap said-of (scan-silent k u v words)
 
-      go : (x : Bool) → keeps u limit (extreme-word k (not u) v c words) ≡ x → (y : Bool) → leaves-second k u ≡ y → (z : Bool) → keeps u limit (second-word u v words) ≡ z
-          → first-due R t (places (entries-of words)) ≡ said-of (cond x Silent (cond (y && z) Silent (scanned k u limit (E v) v words)))
-      go true p y q z r = quiet (λ w l e o. turned-range e o p)
-      go false p true q true r = quiet (λ w l e o. turned-second e o fine q r)
-      go false p true q false r =
-          scan-all fine (turns-word k u limit (E v)) (λ w l e o. turned-test e o fine (ap (λ x. x && keeps u limit (second-word u v words)) q ∙ r)) ∙ ap said-of (scan-scanned k u v limit (E v) words)
-      go false p false q z r =
-          scan-all fine (turns-word k u limit (E v)) (λ w l e o. turned-test e o fine (ap (λ x. x && keeps u limit (second-word u v words)) q)) ∙ ap said-of (scan-scanned k u v limit (E v) words)
+      told : (s : Bool) → (leaves-second k u && keeps u limit (second-word u v words)) ≡ s
+          → (w l : ℕ) → Member w l words → v (l / 2) ≡ 0 → not (keeps u limit (turned w l)) ≡ (not s && turns-word k u limit (E v) w)
+      told s q w l e o = turned-test e o fine ∙ ap (λ x. not x && turns-word k u limit (E v) w) q
+
+      go : (x : Bool) → keeps u limit (extreme-word k (not u) v c words) ≡ x → (s : Bool) → (leaves-second k u && keeps u limit (second-word u v words)) ≡ s
+          → first-due R t (places (entries-of words)) ≡ said-of (cond x Silent (cond s Silent (scanned k u limit (E v) v words)))
+      go true p s q = quiet (λ w l e o. turned-range e o p)
+      go false p true q = quiet (told true q)
+      go false p false q = scan-all fine (turns-word k u limit (E v)) (told false q) ∙ ap said-of (scan-scanned k u v limit (E v) words)
 
   pub says-fixed : says R t ≡ said-of (body-says k u limit (E v) (extreme-word k (not u) v c words) v words)
   unfolding says

@@ -1,7 +1,7 @@
 -- What a sentence with an open head says first: only a literal of the head can be due, since the rule refutes nothing without its head's
 -- truth; and the two extremes decide which.
 use mathlib.Core.Path.{_≡_, refl, sym, _∙_, ap}
-use mathlib.Core.Bool.{Bool, true, false, not, cond, Bool·beq, _&&_}
+use mathlib.Core.Bool.{Bool, true, false, not, cond, Bool·beq, _&&_, and-false}
 use mathlib.Core.List.{List, [], _∷_}
 use Prim.Native.Nat.{ℕ, _+_, _*_, _/_}
 use native.Mathlib.Omega.{arith}
@@ -23,7 +23,7 @@ use Rattle.sentence.specs.Sentence.{said-of}
 use Rattle.extremes.specs.Words.{extreme-word}
 use Rattle.sentence.specs.Words.{limit-word, upwards, keeps, head-says}
 use Rattle.extremes.proofs.Contributions.{ShowsIn}
-use Rattle.sentence.proofs.Dues.{said-cond, and-false, passed-over, free-due}
+use Rattle.sentence.proofs.Dues.{said-cond, passed-over, free-due}
 use Rattle.extremes.proofs.Sound.{sided, rule-words, Sound}
 use Rattle.sentence.proofs.Comparisons.{kept-at}
 

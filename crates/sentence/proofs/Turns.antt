@@ -1,14 +1,14 @@
 -- The test on an entry of weight w is right: with the entry's furthest contribution replaced by its nearest one, the comparison loses its
 -- truth exactly where the test says so.
 use mathlib.Core.Path.{_≡_, refl, sym, _∙_, ap}
-use mathlib.Core.Bool.{Bool, true, false, not, cond, true≢false}
+use mathlib.Core.Bool.{Bool, true, false, not, cond, _&&_, and-true, and-false}
 use mathlib.Core.List.{List}
 use mathlib.Core.Logic.{⊎-elim}
 use Prim.Native.Nat.{ℕ, _+_, _-_, _*_, _/_, _≤_, _<_, min, max}
 use native.Mathlib.Omega.{arith}
 use native.Mathlib.Nat.{mul-one, div-one}
 use lib.Dec.{eqb, leb}
-use borrow.Author.Tests.{leb-true, leb-false, le-leb, lt-leb, not-true, not-false}
+use borrow.Author.Tests.{leb-true, leb-false, le-leb, lt-leb, not-true}
 use Rattle.numbers.specs.Words.{half, top}
 use Rattle.numbers.proofs.Words.{cases}
 use Rattle.extremes.specs.declared.Kind.{Kind}
@@ -47,61 +47,40 @@ product-turned u w p {xs} {ys} s =
 
 -- ---- a maximum up and a minimum down: the second best, where the entry was the best
 
-module _ (limit : ℕ) (small : limit ≤ top) where
-  -- what is left: the second best s, or the best e
-  left : (u b : Bool) (e s : ℕ) → ℕ
-  left u b e s = furthest-word u (cond b s e) (empty-word (best-kind u))
+-- the empty value does not count
+empty-keeps : (limit : ℕ) → limit ≤ top → (u : Bool) (x : ℕ) → keeps u limit (furthest-word u x (empty-word (best-kind u))) ≡ keeps u limit x
+empty-keeps limit small true x = let e : max x 0 ≡ x = omega arith in ap (leb limit) e
+empty-keeps limit small false x =
+    ⊎-elim
+    (λ (h : limit ≤ x). ap not (le-leb limit (min x top) (omega arith) ∙ sym (le-leb limit x h)))
+    (λ (h : x < limit). let e : min x top ≡ x = omega arith in ap (λ y. not (leb limit y)) e)
+    (cases x limit)
 
-  left-keeps : (u b : Bool) (e s : ℕ) → keeps u limit e ≡ true → keeps u limit s ≡ true → not (keeps u limit (left u b e s)) ≡ false
-  unfolding left
-  left-keeps true true e s h k = ap not (le-leb limit (max s 0) (omega (arith, leb-true limit s k)))
-  left-keeps true false e s h k = ap not (le-leb limit (max e 0) (omega (arith, leb-true limit e h)))
-  left-keeps false true e s h k = ap (λ c. not (not c)) (lt-leb limit (min s top) (omega (arith, leb-false limit s (not-true (leb limit s) k))))
-  left-keeps false false e s h k = ap (λ c. not (not c)) (lt-leb limit (min e top) (omega (arith, leb-false limit e (not-true (leb limit e) h))))
+-- the furthest is the weight, and the nearest the empty value
+weight-sides : (u : Bool) (w : ℕ) → w < top → (furthest-word u w (empty-word (best-kind u)) ≡ w) × (nearest-word u w (empty-word (best-kind u)) ≡ empty-word (best-kind u))
+weight-sides true w h = (omega arith, omega arith)
+weight-sides false w h = (omega arith, omega arith)
 
-  left-turns : (u b : Bool) (e s : ℕ) → keeps u limit e ≡ true → keeps u limit s ≡ false → not (keeps u limit (left u b e s)) ≡ b
-  unfolding left
-  left-turns true true e s h k = ap not (lt-leb limit (max s 0) (omega (arith, leb-false limit s k)))
-  left-turns true false e s h k = ap not (le-leb limit (max e 0) (omega (arith, leb-true limit e h)))
-  left-turns false true e s h k = ap (λ c. not (not c)) (le-leb limit (min s top) (omega (arith, leb-true limit s (not-false (leb limit s) k))))
-  left-turns false false e s h k = ap (λ c. not (not c)) (lt-leb limit (min e top) (omega (arith, leb-false limit e (not-true (leb limit e) h))))
+empty-empty : (u : Bool) → furthest-word u (empty-word (best-kind u)) (empty-word (best-kind u)) ≡ empty-word (best-kind u)
+empty-empty true = refl
+empty-empty false = refl
 
-  -- the furthest is the weight, and the nearest the empty value
-  furthest-weight : (u : Bool) (w : ℕ) → w < top → furthest-word u w (empty-word (best-kind u)) ≡ w
-  furthest-weight true w h = omega arith
-  furthest-weight false w h = omega arith
+-- what is left is the second best s, where the entry was the best, or the best e
+left-told : (limit : ℕ) → limit ≤ top → (u b : Bool) (e s : ℕ) → keeps u limit e ≡ true
+    → not (keeps u limit (furthest-word u (cond b s e) (empty-word (best-kind u)))) ≡ (not (keeps u limit s) && b)
+left-told limit small u true e s h = ap not (empty-keeps limit small u s) ∙ sym (and-true (not (keeps u limit s)))
+left-told limit small u false e s h = ap not (empty-keeps limit small u e ∙ h) ∙ sym (and-false (not (keeps u limit s)))
 
-  nearest-empty : (u : Bool) (w : ℕ) → w < top → nearest-word u w (empty-word (best-kind u)) ≡ empty-word (best-kind u)
-  nearest-empty true w h = omega arith
-  nearest-empty false w h = omega arith
-
-  module _ (u : Bool) (w : ℕ) (high : w < top) {xs ys : List ℕ}
-      (s : Swapped (furthest-word u w (empty-word (best-kind u))) (nearest-word u w (empty-word (best-kind u))) xs ys) where
-    abbrev start : ℕ
-    start = empty-word (best-kind u)
-
-    abbrev E : ℕ
-    E = folded (best-kind u) start xs
-
-    abbrev S : ℕ
-    S = second-best u start start xs
-
-    left-is : folded (best-kind u) start ys ≡ left u (eqb w E) E S
-    unfolding left
-    left-is =
-        let a : (u : Bool) → furthest-word u (empty-word (best-kind u)) (empty-word (best-kind u)) ≡ empty-word (best-kind u) = same in
-        sym (best-swap u start start (furthest-word u w start) (nearest-word u w start) s (a u))
-        ∙ rw (furthest-weight u w high, nearest-empty u w high)
-      where
-        same : (u : Bool) → furthest-word u (empty-word (best-kind u)) (empty-word (best-kind u)) ≡ empty-word (best-kind u)
-        same true = refl
-        same false = refl
-
-    second-keeps : keeps u limit E ≡ true → keeps u limit S ≡ true → not (keeps u limit (folded (best-kind u) start ys)) ≡ false
-    second-keeps h k = ap (λ f. not (keeps u limit f)) left-is ∙ left-keeps u (eqb w E) E S h k
-
-    second-turns : keeps u limit E ≡ true → keeps u limit S ≡ false → not (keeps u limit (folded (best-kind u) start ys)) ≡ eqb w E
-    second-turns h k = ap (λ f. not (keeps u limit f)) left-is ∙ left-turns u (eqb w E) E S h k
+second-told : (u : Bool) (limit w : ℕ) → limit ≤ top → w < top → {xs ys : List ℕ}
+    → Swapped (furthest-word u w (empty-word (best-kind u))) (nearest-word u w (empty-word (best-kind u))) xs ys → keeps u limit (folded (best-kind u) (empty-word (best-kind u)) xs) ≡ true
+    → not (keeps u limit (folded (best-kind u) (empty-word (best-kind u)) ys))
+    ≡ (not (keeps u limit (second-best u (empty-word (best-kind u)) (empty-word (best-kind u)) xs)) && eqb w (folded (best-kind u) (empty-word (best-kind u)) xs))
+second-told u limit w small high {xs} s h =
+    let start = empty-word (best-kind u) in
+    let E = folded (best-kind u) start xs in
+    ap (λ f. not (keeps u limit f))
+    (sym (best-swap u start start (furthest-word u w start) (nearest-word u w start) s (empty-empty u)) ∙ rw (weight-sides u w high .0, weight-sides u w high .1))
+    ∙ left-told limit small u (eqb w E) E (second-best u start start xs) h
 
 -- ---- a maximum down and a minimum up: the weight comes in
 
@@ -119,38 +98,20 @@ comes-in false limit e w h =
 
 -- ---- every kind
 
--- where what is left, if it is the second best, loses the truth
 pub turned-loses : (k : Kind) (u : Bool) (limit c w : ℕ) → limit ≤ top → w < top → In k w → {xs ys : List ℕ}
     → Swapped (furthest-word u w (empty-word k)) (nearest-word u w (empty-word k)) xs ys → Room k (start-word k c) xs → Room k (start-word k c) ys
-    → keeps u limit (folded k (start-word k c) xs) ≡ true
-    → (leaves-second k u ≡ true → keeps u limit (second-best u (empty-word (best-kind u)) (empty-word (best-kind u)) xs) ≡ false)
-    → not (keeps u limit (folded k (start-word k c) ys)) ≡ turns-word k u limit (folded k (start-word k c) xs) w
-turned-loses Sum u limit c w small high i {xs} {ys} s p q h n =
+    → keeps u limit (folded k (start-word k c) xs) ≡ true → not (keeps u limit (folded k (start-word k c) ys))
+    ≡ (not (leaves-second k u && keeps u limit (second-best u (empty-word (best-kind u)) (empty-word (best-kind u)) xs)) && turns-word k u limit (folded k (start-word k c) xs) w)
+turned-loses Sum u limit c w small high i {xs} {ys} s p q h =
     ap (λ f. not (keeps u limit f)) (shifted-is u (folded Sum c xs) (folded Sum c ys) w (sum-swap Sum (λ a b. refl) (λ a b r. r .0) c (furthest-word u w half) (nearest-word u w half) s p q))
-turned-loses Product u limit c w small high i s p q h n = ap (λ f. not (keeps u limit f)) (product-turned u w (i .0) s)
-turned-loses Count u limit c w small high i {xs} {ys} s p q h n =
+turned-loses Product u limit c w small high i s p q h = ap (λ f. not (keeps u limit f)) (product-turned u w (i .0) s)
+turned-loses Count u limit c w small high i {xs} {ys} s p q h =
     ap (λ f. not (keeps u limit f)) (shifted-is u (folded Count c xs) (folded Count c ys) w (sum-swap Count (λ a b. refl) (λ a b r. r .0) c (furthest-word u w half) (nearest-word u w half) s p q))
-turned-loses Max true limit c w small high i s p q h n = second-turns limit small true w high s h (n refl)
-turned-loses Max false limit c w small high i {xs} {ys} s p q h n =
+turned-loses Max true limit c w small high i s p q h = second-told true limit w small high s h
+turned-loses Max false limit c w small high i {xs} s p q h =
     let y : max w 0 ≡ w = omega arith in
-    ap (λ f. not (keeps false limit f)) (empty-swap true (min w 0) 0 (max w 0) (omega arith) s ∙ ap (max (folded Max 0 xs)) y)
-    ∙ comes-in false limit (folded Max 0 xs) w h
-turned-loses Min true limit c w small high i {xs} {ys} s p q h n =
+    ap (λ f. not (keeps false limit f)) (empty-swap true (min w 0) 0 (max w 0) (omega arith) s ∙ ap (max (folded Max 0 xs)) y) ∙ comes-in false limit (folded Max 0 xs) w h
+turned-loses Min true limit c w small high i {xs} s p q h =
     let y : min w top ≡ w = omega arith in
-    ap (λ f. not (keeps true limit f)) (empty-swap false (max w top) top (min w top) (omega arith) s ∙ ap (min (folded Min top xs)) y)
-    ∙ comes-in true limit (folded Min top xs) w h
-turned-loses Min false limit c w small high i s p q h n = second-turns limit small false w high s h (n refl)
-
--- where what is left is the second best, and keeps the truth
-pub second-silent : (k : Kind) (u : Bool) (limit c w : ℕ) → limit ≤ top → w < top → {xs ys : List ℕ}
-    → Swapped (furthest-word u w (empty-word k)) (nearest-word u w (empty-word k)) xs ys
-    → leaves-second k u ≡ true → keeps u limit (folded k (start-word k c) xs) ≡ true
-    → keeps u limit (second-best u (empty-word (best-kind u)) (empty-word (best-kind u)) xs) ≡ true
-    → not (keeps u limit (folded k (start-word k c) ys)) ≡ false
-second-silent Sum u limit c w small high s e h n = absurd (true≢false (sym e))
-second-silent Product u limit c w small high s e h n = absurd (true≢false (sym e))
-second-silent Count u limit c w small high s e h n = absurd (true≢false (sym e))
-second-silent Max true limit c w small high s e h n = second-keeps limit small true w high s h n
-second-silent Max false limit c w small high s e h n = absurd (true≢false (sym e))
-second-silent Min true limit c w small high s e h n = absurd (true≢false (sym e))
-second-silent Min false limit c w small high s e h n = second-keeps limit small false w high s h n
+    ap (λ f. not (keeps true limit f)) (empty-swap false (max w top) top (min w top) (omega arith) s ∙ ap (min (folded Min top xs)) y) ∙ comes-in true limit (folded Min top xs) w h
+turned-loses Min false limit c w small high i s p q h = second-told false limit w small high s h
