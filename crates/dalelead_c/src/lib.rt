@@ -176,7 +176,7 @@ fn give_short(area: &[u64], length: u64, level: u64, literal: i64) -> u64
     if !is_whole(area, length, level) {
         return 9;
     }
-    let n = (area[0] % 65536) as usize;
+    let n = area::atoms_of(area);
     let size = signed::size(literal);
     if size == 0 {
         return 10;
@@ -184,7 +184,7 @@ fn give_short(area: &[u64], length: u64, level: u64, literal: i64) -> u64
     if size > n as u64 {
         return 10;
     }
-    if area[n - 1 + size as usize] != 0 {
+    if area::value_at(area, n, size as usize) != 0 {
         return 11;
     }
     answer(18, 2)
@@ -337,8 +337,8 @@ fn search_short(area: &[u64], length: u64, level: u64, literals: &[i64]) -> u64
     if !is_whole(area, length, level) {
         return 9;
     }
-    let n = area[0] % 65536;
-    if !search::all_known(literals, n) {
+    let n = area::atoms_of(area);
+    if !search::all_known(literals, n as u64) {
         return 10;
     }
     answer(18, 4)
