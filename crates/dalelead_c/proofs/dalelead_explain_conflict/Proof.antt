@@ -1,8 +1,4 @@
 -- The list call's code and value in one number, which fits (`Sizes`).
-use lib.ListN.{length}
-use Rattle.book.specs.Table.{explain-conflict}
-use Rattle.whole.specs.Parts.{counters}
-use Rattle.calls.specs.Calls.{listed-paper}
 use Rattle.dalelead_c.proofs.Sizes.{conflict-list-small}
 use Rattle.dalelead_c.proofs.Reporting.{reports-list}
 use borrow.Author.Needs.{needs}
@@ -10,23 +6,10 @@ use Rattle.dalelead_c.proofs.dalelead_explain_conflict.Statement.{state
 use Rattle.dalelead_c.proofs.dalelead_explain_conflict.Tie as tie
 
 answer-requires : tie.Need-answer-requires
-answer-requires c κs = let s = c .before .before .before .before in
-    let w = s .args .area .now in
-    let had = counters (s .args .length) (s .args .level) in
-    let old = s .args .list .now in
-    let found = c .before .explain-conflict in
-    let l = found .ensures in
-    conflict-list-small w had (listed-paper (found .result)) (s .args .sentence) (length old) (l .answer)
+answer-requires c κs = search conflict-list-small
 
 returns : tie.Need-returns
-returns c = let s = c .before .before .before .before .before in
-    let w = s .args .area .now in
-    let had = counters (s .args .length) (s .args .level) in
-    let old = s .args .list .now in
-    let found = c .before .before .explain-conflict in
-    let l = found .ensures in
-    reports-list w had (explain-conflict (s .args .sentence)) old _ (listed-paper (found .result)) (c .answer .result) l
-    (c .answer .ensures)
+returns c = search reports-list
 
 pub dalelead-explain-conflict-spec : {M : Type 1} → statement M
 dalelead-explain-conflict-spec =

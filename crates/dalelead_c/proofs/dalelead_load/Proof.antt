@@ -1,6 +1,5 @@
 -- Refused, too few lent words, or loaded with the counters 0 and 0 (`Loading`).
-use mathlib.Core.Path.{refl, sym, subst}
-use native.Mathlib.Omega.{arith}
+use mathlib.Core.Path.{sym, subst}
 use lib.ListN.{length}
 use Rattle.columns.specs.Columns.{Columns, columns}
 use Rattle.dalelead_c.proofs.Loading.{Small, load-small, loads-short, loads-refused, loads-done}
@@ -14,35 +13,17 @@ cols c =
     (c .args .literals .now)
 
 returns : tie.Need-returns
-returns c = let s = c .before .before .before .before .before .before .before .before in
-    let w = s .args .area .now in
-    let n = s .args .atoms in
-    loads-short w n (cols s) (s .args .next .now) (c .load-short .result) (omega arith) (c .load-short .ensures)
+returns c = search loads-short
 
 answer-requires : tie.Need-answer-requires
 answer-requires c κs = let s = c .before .before .before .before .before .before .before .before .before .before .before .before .before in
-    let w = s .args .area .now in
-    let n = s .args .atoms in
-    subst Small (sym (c .before .before .before .before .load .ensures .answer-is)) (load-small (length w) n (cols s))
+    subst Small (sym (c .before .before .before .before .load .ensures .answer-is)) (load-small (length (s .args .area .now)) (s .args .atoms) (cols s))
 
 returns-2 : tie.Need-returns-2
-returns-2 c = let s = c .before .before .before .before .before .before .before .before .before .before .before .before .before .before in
-    let w = s .args .area .now in
-    let n = s .args .atoms in
-    loads-refused w n (cols s) (s .args .next .now) (c .answer .result) (c .before .before .before .before .before .load .last .0)
-    (c .before .before .before .before .before .load .result) (c .before .before .before .before .before .load .ensures) (c .before .if2 .taken)
-    (c .answer .ensures)
+returns-2 c = search loads-refused
 
 returns-3 : tie.Need-returns-3
-returns-3 c =
-    let s =
-    c .before .before .before .before .before .before .before .before .before .before .before .before .before .before .before .before .before in
-    let w = s .args .area .now in
-    let n = s .args .atoms in
-    loads-done w n (cols s) (s .args .next .now) 0 (c .before .before .before .before .before .before .before .before .load .last .0)
-    (c .before .before .before .before .before .before .before .before .load .result)
-    (c .before .before .before .before .before .before .before .before .load .ensures) (c .before .before .put-two .last .0)
-    (c .before .before .before .before .if2 .left) (omega arith) (c .before .before .put-two .ensures) refl
+returns-3 c = search loads-done
 
 pub dalelead-load-spec : {M : Type 1} → statement M
 dalelead-load-spec =

@@ -22,49 +22,25 @@ within c = let lim = c .before .before .before .before .before .before .before .
 )
 
 returns : tie.Need-returns
-returns c = need-none (c .before .before .args .atoms) (c .before .before .args .sentences) (c .before .before .args .entries) (c .if1 .taken)
+returns c = search need-none
 
 returns-2 : tie.Need-returns-2
-returns-2 c =
-    let s = c .before .before .before .before in
-    need-atoms (s .args .atoms) (s .args .sentences) (s .args .entries)
-    (omega (arith, ap (λ (l : Limits). l .atoms) (c .before .before .before .base .ensures), c .if2 .taken))
+returns-2 c = search need-atoms
 
 returns-3 : tie.Need-returns-3
-returns-3 c =
-    let s = c .before .before .before .before .before .before in
-    need-sentences (s .args .atoms) (s .args .sentences) (s .args .entries)
-    (omega (arith, ap (λ (l : Limits). l .sentences) (c .before .before .before .before .before .base .ensures), c .if3 .taken))
+returns-3 c = search need-sentences
 
 returns-4 : tie.Need-returns-4
-returns-4 c =
-    let s = c .before .before .before .before .before .before .before .before in
-    need-entries (s .args .atoms) (s .args .sentences) (s .args .entries)
-    (omega (arith, ap (λ (l : Limits). l .entries) (c .before .before .before .before .before .before .before .base .ensures), c .if4 .taken))
-
-mul-result : tie.Need-mul-result
-mul-result c = let h = within c in omega (arith, h .0, h .1, h .2, h .3)
-
-mul-result-2 : tie.Need-mul-result-2
-mul-result-2 c = let h = within c in omega (arith, h .0, h .1, h .2, h .3)
-
-add-result : tie.Need-add-result
-add-result c = let h = within c in omega (arith, h .0, h .1, h .2, h .3)
-
-mul-result-3 : tie.Need-mul-result-3
-mul-result-3 c = let h = within c in omega (arith, h .0, h .1, h .2, h .3)
-
-add-result-2 : tie.Need-add-result-2
-add-result-2 c = let h = within c in omega (arith, h .0, h .1, h .2, h .3)
+returns-4 c = search need-entries
 
 returns-5 : tie.Need-returns-5
 returns-5 c =
-    let s = start c in
-    let h = within c in
-    need-words (s .args .atoms) (s .args .sentences) (s .args .entries) (h .0) (h .1) (h .2) (h .3)
+    let h = within c in need-words (start c .args .atoms) (start c .args .sentences) (start c .args .entries) (h .0) (h .1) (h .2) (h .3)
 
 pub dalelead-need-spec : {M : Type 1} → statement M
 dalelead-need-spec =
     tie.close
     (tie.spec
-    (λ c κs. search needs) returns returns-2 returns-3 returns-4 mul-result mul-result-2 add-result mul-result-3 add-result-2 returns-5)
+    (λ c κs. search needs) returns returns-2 returns-3 returns-4 (λ c. let h = within c in omega (arith, h .1, h .2, h .3))
+    (λ c. let h = within c in omega (arith, h .1, h .2, h .3)) (λ c. let h = within c in omega (arith, h .1, h .2, h .3))
+    (λ c. let h = within c in omega (arith, h .1, h .2, h .3)) (λ c. let h = within c in omega (arith, h .1, h .2, h .3)) returns-5)
