@@ -1,11 +1,9 @@
 -- `search_in` meets its contract: it lends the counters to `search_told`, with the list of literals, which is lent too.
-use mathlib.Core.Path.{refl, ap}
+use mathlib.Core.Path.{ap}
 use mathlib.Core.List.{[], _∷_}
 use lib.ListN.{length}
-use mir.Syntax.{named, imm, w64, tyInt, tyRef}
 use contract.Running.{givenOf, tables, tablesOf}
-use denote.Builtin.{i64}
-use denote.Slice.{sliceVal, sliceTy, ShrSlice, shr-slice-tells, shr-slice-copy}
+use denote.Slice.{sliceVal}
 use denote.Steps.{only}
 use denote.Struct.Laws as LL
 use denote.Triple.Spec.{tripleOf}
@@ -17,7 +15,7 @@ use Rattle.lent.proofs.SearchTold as S
 use Rattle.lent.proofs.SearchTold.Laws as S′
 use Rattle.lent.proofs.SearchOutcome as R
 use Rattle.lent.proofs.SearchOutcome.Laws as R′
-use Rattle.lent.proofs.Lending.{Answer, Extra, lent-vals, holds, lends}
+use Rattle.lent.proofs.Lending.{Answer, LiteralsAt, literals-at, lent-vals, holds, lends}
 use Rattle.lent.proofs.search_told as told
 use Rattle.lent.proofs.search_told.Symbol as told-def
 use Rattle.lent.proofs.search_told.Met as told-thm
@@ -25,17 +23,6 @@ use Rattle.lent.proofs.search_in.Key.{name as #lent·search-in}
 use Rattle.lent.proofs.search_in as search-in
 use Rattle.lent.proofs.search_in.Statement as stated
 use Rattle.lent.proofs.search_in.Code as code
-
-abbrev literals : Extra 1 (λ κs. ShrSlice (named 2) (κs .1 .1 .0) i64)
-literals = record {
-  ty = sliceTy (tyRef (named 2) imm (tyInt w64));
-  low = λ _ x. sliceVal (x .ptr) (length (x .now));
-  tells = λ κs. shr-slice-tells (named 2) (κs .1 .1 .0) i64;
-  still = λ _ x. tt;
-  silent = λ _ x f. refl;
-  typed = λ 𝓤 H A W _ x is. (tt, (tt, (record { fits = is .0 .1 .0 }, tt)));
-  copies = λ 𝓤 H A W κs. shr-slice-copy 𝓤 H A W (named 2) (κs .1 .1 .0) i64;
-}
 
 abbrev answer : Answer
 answer = record {
@@ -62,6 +49,6 @@ search-in-spec 𝓤 H 𝓜 𝓖 𝓡 =
     code.calls-lent·search-told (told-thm.met 𝓤 H 𝓜 𝓖 𝓡) in
     entered 𝓤 H (tripleOf 𝓤 H (𝓖 .A) search-in.signature (search-in.spec 𝓤 H (𝓖 .A) (𝓜 .mem) (𝓡 .run)))
     (tables 𝓤 H 𝓜 𝓡 code.env .C) (tables 𝓤 H 𝓜 𝓡 code.env .Λ) #lent·search-in code.function (code.unfolded 𝓤 H 𝓜 𝓡)
-    (lends 1 (λ κs. ShrSlice (named 2) (κs .1 .1 .0) i64) literals answer told-def.name 𝓤 H (𝓖 .A) (givenOf 𝓤 H 𝓜 𝓖) (search-in.clauses 𝓤 H (𝓖 .A) (𝓜 .mem) (𝓡 .run))
+    (lends 1 (LiteralsAt 3 2 tt) (literals-at 3 2 tt) answer told-def.name 𝓤 H (𝓖 .A) (givenOf 𝓤 H 𝓜 𝓖) (search-in.clauses 𝓤 H (𝓖 .A) (𝓜 .mem) (𝓡 .run))
     (tablesOf 𝓤 H 𝓜 (tables 𝓤 H 𝓜 𝓡 code.env)) (λ _ w h x w′ r. SearchesFor base-limits w w′ h (x .now) (searched (r .outcome) (r .counters))) (λ κs a g zs r e. holds 𝓤 e)
     (λ κs qs area h x. known (((κs .0, κs .1 .1), (qs .0, qs .1 .1), tt, (area, (h, (x, tt))), lent-vals area h (sliceVal (x .ptr) (length (x .now)) ∷ [], tt)), tt)))

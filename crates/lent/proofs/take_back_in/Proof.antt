@@ -18,7 +18,7 @@ use Rattle.lent.proofs.take_back_in as take-back-in
 use Rattle.lent.proofs.take_back_in.Statement as stated
 use Rattle.lent.proofs.take_back_in.Code as code
 
-abbrev level : Extra 0 (λ _. P.the-row)
+abbrev level : Extra 2 (λ _. P.the-row)
 level = record {
   ty = P′.mir;
   low = λ _ x. P′.lowered x;
