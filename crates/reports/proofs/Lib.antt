@@ -2,5 +2,4 @@ pub mod Signs
 pub mod Values
 pub mod Rows
 pub mod Replies
-pub mod Answers
 pub mod Meaning

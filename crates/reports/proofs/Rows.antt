@@ -1,7 +1,7 @@
 -- The rows written so far stand at the front of the list, and the rest of it is as it was: three stores put one row more behind them.
 use mathlib.Core.Path.{_≡_, refl, sym, _∙_, ap}
 use mathlib.Core.List.{List, [], _∷_, _++_}
-use Prim.Native.Nat.{ℕ, suc, _+_, _*_, _/_, _%_, _<_, _≤_}
+use Prim.Native.Nat.{ℕ, suc, _+_, _*_, _<_, _≤_}
 use native.Mathlib.Omega.{arith}
 use lib.IntN.{ℤ, pos}
 use lib.ListN.{length, take, drop, set, length-append, length-drop}
@@ -10,7 +10,7 @@ use mir.Syntax.{w64}
 use mir.Val.{SFits, toZ, ofZ}
 use mir.ValLaws.{toZ-ofZ}
 use Rattle.book.specs.Rows.{Row, flat}
-use Rattle.area.specs.Layout.{mark-at, row-at, rows-from}
+use Rattle.area.specs.Layout.{row-at, rows-from}
 use Rattle.trail_check.proofs.Rows.{rows-length}
 use Rattle.reports.proofs.Signs.{natural}
 
@@ -51,19 +51,19 @@ module _ (w : List ℕ) (n k : ℕ) (old new : List ℤ) (h : 3 * k + 3 ≤ leng
   abbrev numbers : List ℤ
   numbers = row-at w n k .literal ∷ pos (row-at w n k .level) ∷ pos (row-at w n k .reason) ∷ []
 
-  pub row-written : (l : ℤ) → l ≡ row-at w n k .literal
-      → Written w n (k + 1) old (sets new (3 * k) (l ∷ pos (mark-at w n k % 65536) ∷ pos (mark-at w n k / 65536 % 65536) ∷ []))
+  pub row-written : {l : ℤ} {v r : ℕ} → l ≡ row-at w n k .literal → v ≡ row-at w n k .level → r ≡ row-at w n k .reason
+      → Written w n (k + 1) old (sets new (3 * k) (l ∷ pos v ∷ pos r ∷ []))
   unfolding rows-from flat
-  row-written l same =
+  row-written same level reason =
       let more : k + 1 ≡ suc k = omega arith in
       let size : 3 * k + 3 ≡ 3 * suc k = omega arith in
       let room : 3 * k + length numbers ≤ length new = omega (arith, written-length w n k old new (omega arith) e) in
-      ap {A = ℤ} (λ x. sets new (3 * k) (x ∷ pos (mark-at w n k % 65536) ∷ pos (mark-at w n k / 65536 % 65536) ∷ [])) same
-      ∙ sets-eq numbers new (3 * k) room
+      rw (same, level, reason)
+      (sets-eq numbers new (3 * k) room
       ∙ ap {A = List ℤ} (λ xs. xs ++ numbers ++ drop (3 * k + 3) new) front-kept
       ∙ ap {A = List ℤ} (λ xs. front ++ numbers ++ xs) rest-kept
       ∙ ap {A = ℕ} (λ m. front ++ numbers ++ drop m old) size
-      ∙ ap {A = ℕ} (λ m. flat (rows-from w n m) ++ drop (3 * m) old) (sym more)
+      ∙ ap {A = ℕ} (λ m. flat (rows-from w n m) ++ drop (3 * m) old) (sym more))
 
 -- the three stores of the code
 pub row-stores : (list : List ℤ) (at : ℕ) (l : ℤ) → SFits w64 l → (level reason : ℕ) → level < 65536 → reason < 65536

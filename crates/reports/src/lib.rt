@@ -11,13 +11,14 @@ ghost use lib.IntN.{pos};
 ghost use lib.ListN.{length, drop};
 ghost use lib.Seq.{sets};
 ghost use Rattle.types.specs.Limits.{Fitting};
-ghost use Rattle.numbers.specs.Words.{top, unbias, unword, literal-of};
+ghost use Rattle.numbers.specs.Words.{top, unbias, unword};
 ghost use Rattle.book.specs.Rows.{flat};
 ghost use Rattle.book.specs.Table.{bounds, list-trail, report, refused, paper, reply};
 ghost use Rattle.area.specs.Layout.{rows-from};
 ghost use Rattle.area.specs.Whole.{Whole};
 ghost use Rattle.calls.specs.Calls.{counted, area-state, bounds-paper, listed-paper, Answered, Reports};
-ghost use Rattle.reports.specs.Reports.{ValueIs, Listing};
+ghost use Rattle.causes.specs.Listing.{Listing};
+ghost use Rattle.reports.specs.Reports.{ValueIs};
 
 // The word of a value above every number; that of one below every number is 0.
 const TOP: u64 = 9_223_372_036_854_775_808;
@@ -34,17 +35,6 @@ fn number(x: u64) -> i64
     ensures { λ r. ⌜ r ≡ unbias x ⌝ }
 {
     x as i64 - 4_611_686_018_427_387_904
-}
-
-// The literal of a stored word.
-pub fn literal_of(x: u64) -> i64
-    ensures { λ r. ⌜ r ≡ literal-of x ⌝ }
-{
-    let atom = (x / 2) as i64;
-    if x % 2 == 0 {
-        return atom;
-    }
-    0 - atom
 }
 
 fn value_of(x: u64) -> Value
@@ -77,18 +67,18 @@ pub fn stored_bounds(area: &[u64], lim: Limits, counters: Counters, sentence: Se
     requires { ⌜ Fitting lim × Whole lim (now area) (counted counters) ⌝ }
     ensures { λ r. ⌜ bounds-paper r ≡ paper (reply (area-state lim (now (area .entry))) (report (bounds (sentence .0)) 0) .answer) ⌝ }
 {
-    let n = (area[0] % 65536) as usize;
-    let count = area[0] / 65536 % 65536;
+    let n = area::atoms_of(area);
+    let count = area::sentences_of(area);
     let k = sentence.0;
     if k == 0 {
         return refusal(16);
     }
-    if k > count {
+    if k > count as u64 {
         return refusal(16);
     }
     let base = 4 * n + 8 * ((k - 1) as usize);
-    let least = value_of(area[base + 4]);
-    let greatest = value_of(area[base + 5]);
+    let least = value_of(area::least_at(area, base));
+    let greatest = value_of(area::greatest_at(area, base));
     Bounds {
         code: 0,
         least_mark: least.mark,
@@ -126,9 +116,10 @@ fn write_rows(area: &[u64], n: usize, rows: usize, list: &mut [i64])
 {
     let mut i: usize = 0;
     while i < rows {
-        let l = literal_of(area[2 * n + i]);
-        let mark = area[3 * n + i];
-        write_row(list, 3 * i, l, mark % 65536, mark / 65536 % 65536);
+        let l = literals::literal_of(area::literal_at(area, n, i));
+        let level = area::row_level(area, n, i);
+        let reason = area::row_reason(area, n, i);
+        write_row(list, 3 * i, l, level, reason as u64);
         i += 1;
     }
 }
@@ -136,10 +127,10 @@ fn write_rows(area: &[u64], n: usize, rows: usize, list: &mut [i64])
 // The answer on a whole area, and the list.
 fn stored_trail(area: &[u64], lim: Limits, counters: Counters, list: &mut [i64]) -> Listed
     requires { ⌜ Whole lim (now area) (counted counters) ⌝ }
-    ensures { λ r. ⌜ Listing lim (now (area .entry)) (now (list .entry)) (now (list .exit)) r ⌝ }
+    ensures { λ r. ⌜ Listing lim (now (area .entry)) (list-trail (length (now (list .entry)))) (now (list .entry)) (now (list .exit)) r ⌝ }
 {
-    let n = (area[0] % 65536) as usize;
-    let rows = (area[0] / 4294967296 % 65536) as usize;
+    let n = area::atoms_of(area);
+    let rows = area::length_of(area);
     let needed = 3 * rows;
     if list.len() < needed {
         return Listed {
