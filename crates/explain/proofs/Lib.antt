@@ -1,4 +1,3 @@
-pub mod Opposites
 pub mod Loops
 pub mod Conflicts
 pub mod Replies

@@ -111,11 +111,7 @@ module _ {w : List ℕ} {n S b limit : ℕ} where
               ∙ ap {A = ℤ} (λ y. take at list ++ (y ∷ from (i + 1))) e
               ∙ ap {A = List ℤ} (λ l. take at list ++ l) (sym (found-here h))
               ∙ x .front;
-          rest =
-              drop-set-lt (at + 1) list at z (omega arith)
-              ∙ sym (drop-drop 1 at list)
-              ∙ ap {A = List ℤ} (drop 1) (x .rest)
-              ∙ drop-drop 1 at old;
+          rest = drop-set-lt (at + 1) list at z (omega arith) ∙ sym (drop-drop 1 at list) ∙ ap {A = List ℤ} (drop 1) (x .rest) ∙ drop-drop 1 at old;
         }
 
         pub writing-same : limit ≤ r → Writing w n S b limit start old (i + 1) at list

@@ -6,10 +6,8 @@ use types::Limits;
 use types::Sentence;
 ghost use mathlib.Core.Path.{_≡_};
 ghost use Prim.Native.Nat.{_+_, _≤_};
-ghost use lib.IntN.{negℤ};
 ghost use lib.ListN.{length};
 ghost use Rattle.types.specs.Limits.{Fitting};
-ghost use Rattle.numbers.specs.Words.{literal-of};
 ghost use Rattle.book.specs.Table.{explain, explain-conflict};
 ghost use Rattle.area.specs.Whole.{Whole};
 ghost use Rattle.calls.specs.Calls.{counted, listed-paper, Reports};
@@ -17,23 +15,12 @@ ghost use Rattle.causes.specs.Causes.{CausesAsked};
 ghost use Rattle.causes.specs.Listing.{Listing};
 ghost use Rattle.explain.specs.Explain.{negations, overwritten, Comparable, ConflictIs};
 
-// The negation of the literal of a stored word.
-fn negated(x: u64) -> i64
-    ensures { λ r. ⌜ r ≡ negℤ (literal-of x) ⌝ }
-{
-    let atom = (x / 2) as i64;
-    if x % 2 == 0 {
-        return 0 - atom;
-    }
-    atom
-}
-
 // How many atoms of the sentence at `base`, its head and its merged entries', have a literal among the first `limit` rows.
 fn count_causes(area: &[u64], n: usize, count: usize, base: usize, limit: usize) -> usize
     requires { ⌜ CausesAsked (now area) n count base limit ⌝ }
     ensures { λ r. ⌜ r ≡ length (negations (now (area .entry)) n count base limit) ⌝ }
 {
-    let merged = (area[base + 7] / 65536) as usize;
+    let merged = area::merged_at(area, base);
     let mut found: usize = 0;
     let mut place = 0;
     while place <= merged {
@@ -58,13 +45,13 @@ fn write_causes(
     requires { ⌜ CausesAsked (now area) n count base limit × (start + length (negations (now area) n count base limit) ≤ length (now list)) ⌝ }
     ensures { λ _. ⌜ now (list .exit) ≡ overwritten (now (list .entry)) start (negations (now (area .entry)) n count base limit) ⌝ }
 {
-    let merged = (area[base + 7] / 65536) as usize;
+    let merged = area::merged_at(area, base);
     let mut at = start;
     let mut place: usize = 0;
     while place <= merged {
         let row = causes::cause_at(area, n, count, base, place, limit);
         if row < limit {
-            list[at] = negated(area[2 * n + row]);
+            list[at] = literals::negated(area::literal_at(area, n, row));
             at += 1;
         }
         place += 1;
@@ -84,24 +71,21 @@ fn stored_explanation(
     requires { ⌜ Fitting lim × Whole lim (now area) (counted counters) ⌝ }
     ensures { λ r. ⌜ Listing lim (now (area .entry)) (explain literal) (now (list .entry)) (now (list .exit)) r ⌝ }
 {
-    let n = (area[0] % 65536) as usize;
-    let size = signed::size(literal);
-    if size == 0 {
+    let n = area::atoms_of(area);
+    let atom = literals::atom_of(literal, n);
+    if atom == 0 {
         return Listed { code: 10, value: 0 };
     }
-    if size > n as u64 {
-        return Listed { code: 10, value: 0 };
-    }
-    let rows = (area[0] / 4294967296 % 65536) as usize;
-    let position = causes::position_of(area, n, rows, literal, size);
+    let rows = area::length_of(area);
+    let position = causes::position_of(area, n, rows, literal, atom);
     if position == rows {
         return Listed { code: 12, value: 0 };
     }
-    let reason = (area[3 * n + position] / 65536 % 65536) as usize;
+    let reason = area::row_reason(area, n, position);
     if reason == 0 {
         return Listed { code: 13, value: 0 };
     }
-    let count = (area[0] / 65536 % 65536) as usize;
+    let count = area::sentences_of(area);
     let base = 4 * n + 8 * (reason - 1);
     let needed = 1 + count_causes(area, n, count, base, position);
     if list.len() < needed {
@@ -142,7 +126,9 @@ fn in_conflict(area: &[u64], n: usize, count: usize, base: usize) -> bool
     requires { ⌜ Comparable (now area) n count base ⌝ }
     ensures { λ r. ⌜ ConflictIs (now (area .entry)) n count base r ⌝ }
 {
-    let said = sentence::says(area, n, count, base, area[base + 4], area[base + 5]);
+    let least = area::least_at(area, base);
+    let greatest = area::greatest_at(area, base);
+    let said = sentence::says(area, n, count, base, least, greatest);
     match said {
         Said::Silent => false,
         Said::Conflict => true,
@@ -161,8 +147,8 @@ fn stored_conflict(
     requires { ⌜ Fitting lim × Whole lim (now area) (counted counters) ⌝ }
     ensures { λ r. ⌜ Listing lim (now (area .entry)) (explain-conflict (sentence .0)) (now (list .entry)) (now (list .exit)) r ⌝ }
 {
-    let n = (area[0] % 65536) as usize;
-    let count = (area[0] / 65536 % 65536) as usize;
+    let n = area::atoms_of(area);
+    let count = area::sentences_of(area);
     let k = sentence.0;
     if k == 0 {
         return Listed { code: 16, value: 0 };
@@ -174,7 +160,7 @@ fn stored_conflict(
     if !in_conflict(area, n, count, base) {
         return Listed { code: 17, value: 0 };
     }
-    let rows = (area[0] / 4294967296 % 65536) as usize;
+    let rows = area::length_of(area);
     let needed = count_causes(area, n, count, base, rows);
     if needed > list.len() {
         return Listed {

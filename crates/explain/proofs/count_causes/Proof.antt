@@ -1,7 +1,6 @@
 -- Those found before a place and those from it on make up all (`Loops`).
-use mathlib.Core.Path.{sym, subst}
 use mathlib.Core.Logic.{⊎-elim}
-use Prim.Native.Nat.{ℕ, _+_, _-_, _≤_}
+use Prim.Native.Nat.{_+_, _-_, _≤_}
 use native.Mathlib.Omega.{arith}
 use borrow.Author.Needs.{needs}
 use Rattle.area.specs.Layout.{merged-at}
@@ -20,30 +19,26 @@ loop-holds : tie.Need-loop-holds Inv-loop μ-loop
 loop-holds c = (omega arith, omega arith, omega arith)
 
 cause-at-requires : tie.Need-cause-at-requires Inv-loop μ-loop
-cause-at-requires c κs = (c .before .before .before .before .pre, c .loop-test .taken)
+cause-at-requires c κs = (c .before .before .before .before .pre, omega (arith, c .before .before .merged-at .ensures, c .loop-test .taken))
 
 loop-again : tie.Need-loop-again Inv-loop μ-loop
 loop-again c = let s = c .before .before .before .before .before .before in
-    let p = c .before .before .before in
-    let w = s .args .area .now in
-    let i = p .loop .place in
     let told = c .before .cause-at .ensures in
-    let more : i ≤ merged-at w (s .args .base) = c .before .before .loop-test .taken in
-    let Next : ℕ → Type 0 = Counted w (s .args .n) (s .args .count) (s .args .base) (s .args .limit) (i + 1) in (
+    let more : c .before .before .before .loop .place ≤ merged-at (s .args .area .now) (s .args .base) = omega (arith, c .before .before .before .before .merged-at .ensures, c .before .before .loop-test .taken) in (
       omega arith,
       ⊎-elim (λ x. omega arith) (λ x. omega arith) (c .if1 .came),
       ⊎-elim
-          (λ x. subst Next (sym (x .1)) (counted-more (s .pre) i more told (p .loop .found) (x .0 .taken) (p .loop .inv .2)))
-          (λ x. subst Next (sym (x .1)) (counted-same (s .pre) i more told (p .loop .found) (x .0 .left) (p .loop .inv .2)))
+          (λ x. rw (x .1) (counted-more (s .pre) (c .before .before .before .loop .place) more told (c .before .before .before .loop .found) (x .0 .taken) (c .before .before .before .loop .inv .2)))
+          (λ x. rw (x .1) (counted-same (s .pre) (c .before .before .before .loop .place) more told (c .before .before .before .loop .found) (x .0 .left) (c .before .before .before .loop .inv .2)))
           (c .if1 .came),
     )
 
 returns : tie.Need-returns Inv-loop μ-loop
-returns c = let p = c .before in counted-ends (c .before .before .before .before .pre) (p .loop .place) (p .loop .found) (c .loop-test .left) (p .loop .inv .2)
+returns c = counted-ends (c .before .before .before .before .pre) (c .before .loop .place) (c .before .loop .found) (omega (arith, c .before .before .merged-at .ensures, c .loop-test .left)) (c .before .loop .inv .2)
 
 pub count-causes-spec : {M : Type 1} → statement M
 count-causes-spec =
     tie.close
     (tie.spec
-    Inv-loop μ-loop (λ c. search needs) (λ c. search needs) (λ c. search needs) loop-holds cause-at-requires (λ c. search needs) (λ c. search needs)
-    (λ c. search needs) loop-again returns)
+    Inv-loop μ-loop (λ c κs. search needs) loop-holds cause-at-requires (λ c. search needs) (λ c. search needs) (λ c. search needs) loop-again
+    returns)

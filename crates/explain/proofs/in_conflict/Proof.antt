@@ -4,18 +4,14 @@ use Rattle.explain.proofs.Conflicts.{silence-told, conflict-told, force
 use Rattle.explain.proofs.in_conflict.Statement.{statement}
 use Rattle.explain.proofs.in_conflict.Tie as tie
 
-returns : tie.Need-returns
-returns c = silence-told (c .before .before .says .ensures) (c .enum-told .given .1)
-
-returns-2 : tie.Need-returns-2
-returns-2 c = conflict-told (c .before .before .says .ensures) (c .enum-told2 .given .1)
-
-returns-3 : tie.Need-returns-3
-returns-3 c = forced-told (c .before .before .says .ensures) _ (c .enum-told3 .given .1)
+says-requires : tie.Need-says-requires
+says-requires c κs = rw (c .before .least-at .ensures, c .greatest-at .ensures) (c .before .before .before .pre .sentence, c .before .before .before .pre .extremes)
 
 pub in-conflict-spec : {M : Type 1} → statement M
 in-conflict-spec =
     tie.close
     (tie.spec
-    (λ c. search needs) (λ c. search needs) (λ c. search needs) (λ c. search needs) (λ c. search needs) (λ c. search needs) (λ c κs. search needs)
-    (λ c. search needs) (λ c. search needs) (λ c. search needs) returns returns-2 returns-3)
+    (λ c κs. search needs) (λ c κs. search needs) says-requires (λ c. search needs) (λ c. search needs) (λ c. search needs)
+    (λ c. silence-told (c .before .before .says .ensures) (c .enum-told .given .1))
+    (λ c. conflict-told (c .before .before .says .ensures) (c .enum-told2 .given .1))
+    (λ c. forced-told (c .before .before .says .ensures) _ (c .enum-told3 .given .1)))
