@@ -118,12 +118,10 @@ module _ (lim : Limits) (w : List ℕ) (c : Counters) (h : Whole lim w c) where
         (subst (λ x. Among m (causes (trail (rows-from w n p)) x)) (sym own-scope) a) t)
 
   -- what the test at position p tells: it was given and is o, or o comes from a cause
-  own-told : (p : ℕ) (o : ℤ) → p < len → T (own p o)
-      → ((row-at w n p .reason ≡ 0) × (lit p ≡ o)) ⊎ ((i : ℕ) × Cause w n S p i × T (from p (lit i) o))
+  own-told : (p : ℕ) (o : ℤ) → p < len → T (own p o) → ((row-at w n p .reason ≡ 0) × (lit p ≡ o)) ⊎ ((i : ℕ) × Cause w n S p i × T (from p (lit i) o))
   own-told p o l t = go (eqb (row-at w n p .reason) 0) (λ y. eqb→eq (row-at w n p .reason) 0 y) (λ e. eqb-false (row-at w n p .reason) 0 e) t
     where
-      derived : (s : ℕ) → row-at w n p .reason ≡ suc s → T (any (λ m. from p m o) (own-causes p))
-          → (i : ℕ) × Cause w n S p i × T (from p (lit i) o)
+      derived : (s : ℕ) → row-at w n p .reason ≡ suc s → T (any (λ m. from p m o) (own-causes p)) → (i : ℕ) × Cause w n S p i × T (from p (lit i) o)
       derived s e u =
           let x = any-told (λ m. from p m o) (own-causes p) u in
           let y = among-row w n (x .0) p (causes-from (trail (rows-from w n p)) (numbered [] (row-at w n p .reason) sc) (x .0) (x .1)) in (

@@ -20,7 +20,7 @@ fn mark_causes(area: &[u64], n: usize, count: usize, s: usize, limit: usize, mar
     ensures { λ _. ⌜ Adds (Named (now (area .entry)) n count s limit) (now (marks .entry)) (now (marks .exit)) ⌝ }
 {
     let base = 4 * n + 8 * s;
-    let merged = (area[base + 7] / 65536) as usize;
+    let merged = area::merged_at(area, base);
     let mut place: usize = 0;
     while place <= merged {
         let p = causes::cause_at(area, n, count, base, place, limit);
@@ -39,7 +39,7 @@ fn mark_one(area: &[u64], n: usize, count: usize, position: usize, marks: &mut [
     if marks[position] == 0 {
         return;
     }
-    let reason = (area[3 * n + position] / 65536 % 65536) as usize;
+    let reason = area::row_reason(area, n, position);
     if reason == 0 {
         return;
     }
@@ -66,7 +66,7 @@ fn is_chosen(area: &[u64], n: usize, i: usize, marks: &[u8]) -> bool
     if marks[i] == 0 {
         return false;
     }
-    area[3 * n + i] / 65536 % 65536 == 0
+    area::row_reason(area, n, i) == 0
 }
 
 // How many of the first rows those are.
@@ -94,7 +94,7 @@ fn write_chosen(area: &[u64], n: usize, rows: usize, marks: &[u8], list: &mut [i
     let mut i: usize = 0;
     while i < rows {
         if is_chosen(area, n, i, marks) {
-            list[at] = reports::literal_of(area[2 * n + i]);
+            list[at] = literals::literal_of(area::literal_at(area, n, i));
             at += 1;
         }
         i += 1;
@@ -106,9 +106,9 @@ fn choose(area: &[u64], position: usize, marks: &mut [u8]) -> usize
     requires { ⌜ OriginsAsked (now area) position × Blank (now area) (now marks) ⌝ }
     ensures { λ r. ⌜ Choice (now (area .entry)) position (now (marks .exit)) r ⌝ }
 {
-    let n = (area[0] % 65536) as usize;
-    let count = (area[0] / 65536 % 65536) as usize;
-    let rows = (area[0] / 4294967296 % 65536) as usize;
+    let n = area::atoms_of(area);
+    let count = area::sentences_of(area);
+    let rows = area::length_of(area);
     marks[position] = 1;
     mark(area, n, count, position, marks);
     count_chosen(area, n, rows, marks)
@@ -125,8 +125,8 @@ fn list_origins(area: &[u64], position: usize, list: &mut [i64]) -> Listed
     if list.len() < needed {
         return Listed { code: 18, value };
     }
-    let n = (area[0] % 65536) as usize;
-    let rows = (area[0] / 4294967296 % 65536) as usize;
+    let n = area::atoms_of(area);
+    let rows = area::length_of(area);
     write_chosen(area, n, rows, &marks, list);
     Listed { code: 0, value }
 }
@@ -142,16 +142,13 @@ fn stored_origin(
     requires { ⌜ Fitting lim × Whole lim (now area) (counted counters) ⌝ }
     ensures { λ r. ⌜ Listing lim (now (area .entry)) (origin literal) (now (list .entry)) (now (list .exit)) r ⌝ }
 {
-    let n = (area[0] % 65536) as usize;
-    let rows = (area[0] / 4294967296 % 65536) as usize;
-    let size = signed::size(literal);
-    if size == 0 {
+    let n = area::atoms_of(area);
+    let rows = area::length_of(area);
+    let atom = literals::atom_of(literal, n);
+    if atom == 0 {
         return Listed { code: 10, value: 0 };
     }
-    if size > n as u64 {
-        return Listed { code: 10, value: 0 };
-    }
-    let position = causes::position_of(area, n, rows, literal, size);
+    let position = causes::position_of(area, n, rows, literal, atom);
     if position == rows {
         return Listed { code: 12, value: 0 };
     }
