@@ -70,12 +70,7 @@ module _ (w : List ℕ) (n S s limit : ℕ) (m₀ : List ℕ) where
     pub all-named : merged-at w (record-at n s) < place → Adds (Named w n S s limit) m₀ m
     all-named h =
         let e = causes-end (trail (rows-from w n limit)) sc place (omega (arith, places)) in
-        record {
-          size = x .size;
-          kept = x .kept;
-          added = λ i p. ⊎-elim (λ y. y) (λ a. absurd (subst (Among (lit i)) e a)) (x .left i p);
-          only = x .only;
-        }
+        record { size = x .size; kept = x .kept; added = λ i p. ⊎-elim (λ y. y) (λ a. absurd (subst (Among (lit i)) e a)) (x .left i p); only = x .only }
 
     module _ (r : ℕ) (c : CauseAt w n (getD sc place 0) limit r) (inside : place ≤ merged-at w (record-at n s)) where
       next-from : from place ≡ pick (trail (rows-from w n limit)) (getD sc place 0) (from (place + 1))

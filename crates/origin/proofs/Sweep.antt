@@ -10,8 +10,7 @@ use lib.ListN.{length, getD}
 use Rattle.area.specs.Layout.{row-at}
 use Rattle.origin.specs.Marks.{Markable, Marked, Named, Cause, Step, Reached, start, next, Adds}
 
-pub markable-below : {w : List ℕ} {n S p : ℕ} {m : List ℕ} → Markable w n S p m
-    → (q : ℕ) → q ≤ p → (m′ : List ℕ) → length m′ ≡ length m → Markable w n S q m′
+pub markable-below : {w : List ℕ} {n S p : ℕ} {m : List ℕ} → Markable w n S p m → (q : ℕ) → q ≤ p → (m′ : List ℕ) → length m′ ≡ length m → Markable w n S q m′
 markable-below {p = p} r q l m′ e = record {
   rows = r .rows;
   position = omega (arith, r .position);

@@ -55,15 +55,7 @@ moved-twice {lim} {w} {w₁} {w₂} m n =
 
 -- the same move, told of the words after it
 pub moved-here : {lim : Limits} {w w′ : List ℕ} {c′ : Counters} {o : Outcome} → Moved lim w w′ c′ o → (a : Answer) → Moved lim w w′ c′ (unchanged (area-state lim w′) a)
-moved-here {lim} {w} {w′} m a = record {
-  whole = m .whole;
-  atoms = m .atoms;
-  theory = m .theory;
-  level = refl;
-  rows = refl;
-  size = m .size;
-  rest = m .rest;
-}
+moved-here {lim} {w} {w′} m a = record { whole = m .whole; atoms = m .atoms; theory = m .theory; level = refl; rows = refl; size = m .size; rest = m .rest }
 
 -- with another answer
 pub moved-with : {lim : Limits} {w w′ : List ℕ} {c′ : Counters} {o : Outcome} → Moved lim w w′ c′ o → (a : Answer) → Moved lim w w′ c′ (record { answer = a; level = o .level; rows = o .rows })

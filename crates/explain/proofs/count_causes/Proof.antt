@@ -9,8 +9,7 @@ use Rattle.explain.proofs.count_causes.Statement.{statement}
 use Rattle.explain.proofs.count_causes.Tie as tie
 
 abbrev Inv-loop : tie.InvT-loop
-Inv-loop area n count base limit merged found₀ place₀ found place =
-    (place ≤ merged + 1) × (found ≤ place) × Counted area n count base limit place found
+Inv-loop area n count base limit merged found₀ place₀ found place = (place ≤ merged + 1) × (found ≤ place) × Counted area n count base limit place found
 
 abbrev μ-loop : tie.MeasureT-loop
 μ-loop area n count base limit merged found₀ place₀ found place = merged + 1 - place

@@ -15,8 +15,7 @@ use Rattle.explain.proofs.write_causes.Statement.{statement}
 use Rattle.explain.proofs.write_causes.Tie as tie
 
 abbrev Inv-loop : tie.InvT-loop
-Inv-loop area n count base limit list₀ start merged at₀ place₀ list at place =
-    (place ≤ merged + 1) × Writing area n count base limit start list₀ place at list
+Inv-loop area n count base limit list₀ start merged at₀ place₀ list at place = (place ≤ merged + 1) × Writing area n count base limit start list₀ place at list
 
 abbrev μ-loop : tie.MeasureT-loop
 μ-loop area n count base limit list₀ start merged at₀ place₀ list at place = merged + 1 - place
