@@ -67,16 +67,16 @@ module _ {lim : Limits} {w : List ℕ} {c : Counters} (fit : Fitting lim) (h : W
         omega (arith, few reason-asked, r .merged, r .fitting .each)
 
     module _ (old : List ℤ) {found : ℕ} (counted : found ≡ length others) where
-      pub explanation-short : length old < 1 + found → Listing lim w (explain l (length old)) old old (record { code = 18; value = 1 + found })
+      pub explanation-short : length old < 1 + found → Listing lim w (explain l) old old (record { code = 18; value = 1 + found })
       explanation-short room =
-          subst (λ m. Listing lim w (explain l (length old)) old old (record { code = 18; value = 1 + m })) (sym counted)
-          (listing-refused lim w (explain l (length old)) old 18 (1 + length others)
+          subst (λ m. Listing lim w (explain l) old old (record { code = 18; value = 1 + m })) (sym counted)
+          (listing-refused lim w (explain l) old 18 (1 + length others)
           (explain-short lim w l (length old) (d .known) p (d .position) (d .inside) s reason-is reason-few (omega arith)))
 
       pub explanation-listed : {z : ℤ} {new : List ℤ} → z ≡ l → 1 + found ≤ length old → new ≡ overwritten (set old 0 z) 1 others
-          → Listing lim w (explain l (length old)) old new (record { code = 0; value = 1 + found })
+          → Listing lim w (explain l) old new (record { code = 0; value = 1 + found })
       explanation-listed {z} {new} same room e =
-          listing-done lim w (explain l (length old)) old (l ∷ others) new (1 + found)
+          listing-done lim w (explain l) old (l ∷ others) new (1 + found)
           (explain-listed lim w l (length old) (d .known) p (d .position) (d .inside) s reason-is reason-few (omega arith)) (omega arith)
           (e
           ∙ first-set old z others (omega arith)
@@ -96,25 +96,25 @@ module _ {lim : Limits} {w : List ℕ} {c : Counters} (fit : Fitting lim) (h : W
     conflict-asked = causes-asked lim w c fit h (k - 1) (length-of w) inside (omega arith)
 
     pub quiet-refused : (old : List ℤ) → ConflictIs w n S (record-at n (k - 1)) false
-        → Listing lim w (explain-conflict k (length old)) old old (record { code = 17; value = 0 })
+        → Listing lim w (explain-conflict k) old old (record { code = 17; value = 0 })
     quiet-refused old is =
-        listing-refused lim w (explain-conflict k (length old)) old 17 0
+        listing-refused lim w (explain-conflict k) old 17 0
         (conflict-quiet lim w k (length old) (k - 1) number inside (conflict-tested fit h (k - 1) inside k false number is))
 
     abbrev all : List ℤ
     all = negations w n S (record-at n (k - 1)) (length-of w)
 
     module _ (is : ConflictIs w n S (record-at n (k - 1)) true) (old : List ℤ) {found : ℕ} (counted : found ≡ length all) where
-      pub clash-short : length old < found → Listing lim w (explain-conflict k (length old)) old old (record { code = 18; value = found })
+      pub clash-short : length old < found → Listing lim w (explain-conflict k) old old (record { code = 18; value = found })
       clash-short room =
-          subst (λ m. Listing lim w (explain-conflict k (length old)) old old (record { code = 18; value = m })) (sym counted)
-          (listing-refused lim w (explain-conflict k (length old)) old 18 (length all)
+          subst (λ m. Listing lim w (explain-conflict k) old old (record { code = 18; value = m })) (sym counted)
+          (listing-refused lim w (explain-conflict k) old 18 (length all)
           (conflict-short lim w k (length old) (k - 1) number inside (conflict-tested fit h (k - 1) inside k true number is) (omega arith)))
 
       pub clash-listed : {new : List ℤ} → found ≤ length old → new ≡ overwritten old 0 all
-          → Listing lim w (explain-conflict k (length old)) old new (record { code = 0; value = found })
+          → Listing lim w (explain-conflict k) old new (record { code = 0; value = found })
       clash-listed {new} room e =
           let size : 0 + length all ≡ found = omega arith in
-          listing-done lim w (explain-conflict k (length old)) old all new found
+          listing-done lim w (explain-conflict k) old all new found
           (conflict-listed lim w k (length old) (k - 1) number inside (conflict-tested fit h (k - 1) inside k true number is) (omega arith)) counted
           (e ∙ ap {A = ℕ} (λ m. all ++ drop m old) size)

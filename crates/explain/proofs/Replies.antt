@@ -11,7 +11,7 @@ use lib.Dec.{leb}
 use borrow.Author.Tests.{le-leb, lt-leb, lt-ltb, le-ltb, eq-eqb, ne-eqb}
 use Rattle.types.specs.declared.Limits.{Limits}
 use Rattle.book.specs.Rows.{trail, causes, Standpoint, row-of, numbered, explanation, conflict-explanation}
-use Rattle.book.specs.Table.{explain, explain-conflict, refused, listed, Judged, scopes, no-atom, no-sentence, stands, was-given, in-conflict, reply}
+use Rattle.book.specs.Table.{explain, explain-conflict, refused, listed, Judged, scopes, no-atom, no-sentence, stands, was-given, in-conflict, reply, report, reported}
 use Rattle.book.specs.Book.{judged-all}
 use Rattle.area.specs.Layout.{atoms-of, sentences-of, length-of, row-at, rows-of, record-at, theory-of}
 use Rattle.whole.proofs.Gives.{judged-count}
@@ -33,12 +33,12 @@ module _ (lim : Limits) (w : List ℕ) where
   -- ---- a derived literal
 
   module _ (l : ℤ) (room : ℕ) where
-    pub explain-strange : no-atom (area-state lim w) l ≡ true → reply (area-state lim w) (explain l room) .answer ≡ refused 10 0
+    pub explain-strange : no-atom (area-state lim w) l ≡ true → reply (area-state lim w) (report (explain l) room) .answer ≡ refused 10 0
     unfolding reply
     explain-strange e = rw e
 
     module _ (an-atom : no-atom (area-state lim w) l ≡ false) where
-      pub explain-absent : stands (area-state lim w) l ≡ false → reply (area-state lim w) (explain l room) .answer ≡ refused 12 0
+      pub explain-absent : stands (area-state lim w) l ≡ false → reply (area-state lim w) (report (explain l) room) .answer ≡ refused 12 0
       unfolding reply
       explain-absent e = rw (an-atom, e)
 
@@ -46,7 +46,7 @@ module _ (lim : Limits) (w : List ℕ) where
         reason-is : row-of l (rows-of w) .mine .reason ≡ row-at w n p .reason
         reason-is = ap {A = Standpoint} (λ x. x .mine .reason) (at .row-is inside)
 
-        pub explain-given : row-at w n p .reason ≡ 0 → reply (area-state lim w) (explain l room) .answer ≡ refused 13 0
+        pub explain-given : row-at w n p .reason ≡ 0 → reply (area-state lim w) (report (explain l) room) .answer ≡ refused 13 0
         unfolding reply
         explain-given e = rw (an-atom, at .stands inside, eq-eqb (row-of l (rows-of w) .mine .reason) 0 (reason-is ∙ e))
 
@@ -66,13 +66,13 @@ module _ (lim : Limits) (w : List ℕ) where
           not-given : was-given (area-state lim w) l ≡ false
           not-given = ne-eqb (row-of l (rows-of w) .mine .reason) 0 (λ z. let e : 0 ≡ suc s = sym z ∙ reason-is ∙ derived in let b : ⊥ = omega arith in b)
 
-          pub explain-short : room < 1 + length others → reply (area-state lim w) (explain l room) .answer ≡ refused 18 (1 + length others)
+          pub explain-short : room < 1 + length others → reply (area-state lim w) (report (explain l) room) .answer ≡ refused 18 (1 + length others)
           unfolding reply
           explain-short h =
               rw (an-atom, at .stands inside, not-given, lt-ltb room (length (explanation (scopes js) (rows-of w) l)) (omega (arith, size)))
               (ap {A = ℕ} (λ m. refused 18 m) size)
 
-          pub explain-listed : 1 + length others ≤ room → reply (area-state lim w) (explain l room) .answer ≡ listed (l ∷ others)
+          pub explain-listed : 1 + length others ≤ room → reply (area-state lim w) (report (explain l) room) .answer ≡ reported (listed (l ∷ others))
           unfolding reply
           explain-listed h =
               rw (an-atom, at .stands inside, not-given, le-ltb room (length (explanation (scopes js) (rows-of w) l)) (omega (arith, size)))
@@ -81,21 +81,21 @@ module _ (lim : Limits) (w : List ℕ) where
   -- ---- a conflict
 
   module _ (k room : ℕ) where
-    no-number : no-sentence (area-state lim w) k ≡ true → reply (area-state lim w) (explain-conflict k room) .answer ≡ refused 16 0
+    no-number : no-sentence (area-state lim w) k ≡ true → reply (area-state lim w) (report (explain-conflict k) room) .answer ≡ refused 16 0
     unfolding reply
     no-number e = rw e
 
-    pub conflict-none : k ≡ 0 → reply (area-state lim w) (explain-conflict k room) .answer ≡ refused 16 0
+    pub conflict-none : k ≡ 0 → reply (area-state lim w) (report (explain-conflict k) room) .answer ≡ refused 16 0
     conflict-none e = no-number (ap {A = Bool} (λ b. not (b && leb k (length js))) (lt-leb 1 k (omega arith)))
 
-    pub conflict-past : S < k → reply (area-state lim w) (explain-conflict k room) .answer ≡ refused 16 0
+    pub conflict-past : S < k → reply (area-state lim w) (report (explain-conflict k) room) .answer ≡ refused 16 0
     conflict-past h = no-number (ap₂ {A = Bool} {B = Bool} (λ x y. not (x && y)) (le-leb 1 k (omega arith)) (lt-leb k (length js) (omega (arith, judged-count w))))
 
   module _ (k room s : ℕ) (number : k ≡ suc s) (few : s < S) where
     a-number : no-sentence (area-state lim w) k ≡ false
     a-number = ap₂ {A = Bool} {B = Bool} (λ x y. not (x && y)) (le-leb 1 k (omega arith)) (le-leb k (length js) (omega (arith, judged-count w)))
 
-    pub conflict-quiet : in-conflict (area-state lim w) k ≡ false → reply (area-state lim w) (explain-conflict k room) .answer ≡ refused 17 0
+    pub conflict-quiet : in-conflict (area-state lim w) k ≡ false → reply (area-state lim w) (report (explain-conflict k) room) .answer ≡ refused 17 0
     unfolding reply
     conflict-quiet e = rw (a-number, e)
 
@@ -111,13 +111,13 @@ module _ (lim : Limits) (w : List ℕ) where
       all-size : length (conflict-explanation (scopes js) (rows-of w) k) ≡ length all
       all-size = ap {A = List ℤ} length all-is
 
-      pub conflict-short : room < length all → reply (area-state lim w) (explain-conflict k room) .answer ≡ refused 18 (length all)
+      pub conflict-short : room < length all → reply (area-state lim w) (report (explain-conflict k) room) .answer ≡ refused 18 (length all)
       unfolding reply
       conflict-short h =
           rw (a-number, conflicting, lt-ltb room (length (conflict-explanation (scopes js) (rows-of w) k)) (omega (arith, all-size)))
           (ap {A = ℕ} (λ m. refused 18 m) all-size)
 
-      pub conflict-listed : length all ≤ room → reply (area-state lim w) (explain-conflict k room) .answer ≡ listed all
+      pub conflict-listed : length all ≤ room → reply (area-state lim w) (report (explain-conflict k) room) .answer ≡ reported (listed all)
       unfolding reply
       conflict-listed h =
           rw (a-number, conflicting, le-ltb room (length (conflict-explanation (scopes js) (rows-of w) k)) (omega (arith, all-size)))

@@ -11,7 +11,7 @@ use borrow.Author.Tests.{lt-ltb, le-ltb}
 use Rattle.types.specs.declared.Limits.{Limits}
 use Rattle.numbers.proofs.Words.{cases}
 use Rattle.book.specs.Rows.{origins}
-use Rattle.book.specs.Table.{Call, origin, refused, listed, scopes, no-atom, stands, reply}
+use Rattle.book.specs.Table.{Report, origin, refused, listed, scopes, no-atom, stands, reply, report, reported}
 use Rattle.book.specs.Book.{judged-all}
 use Rattle.area.specs.Layout.{atoms-of, length-of, rows-of, theory-of}
 use Rattle.calls.specs.declared.Listed.{Listed}
@@ -22,8 +22,8 @@ use Rattle.causes.proofs.Listing.{listing-refused, listing-done}
 use Rattle.origin.specs.Origin.{origins-at, Handed}
 
 module _ (lim : Limits) (w : List ℕ) (l : ℤ) (old : List ℤ) where
-  abbrev call : Call
-  call = origin l (length old)
+  abbrev call : Report
+  call = origin l
 
   abbrev ls : List ℤ
   ls = origins (scopes (judged-all (theory-of w))) (rows-of w) l
@@ -35,18 +35,18 @@ module _ (lim : Limits) (w : List ℕ) (l : ℤ) (old : List ℤ) where
   listing-strange e = listing-refused lim w call old 10 0 (rw e)
 
   module _ (known : no-atom (area-state lim w) l ≡ false) where
-    absent : stands (area-state lim w) l ≡ false → reply (area-state lim w) call .answer ≡ refused 12 0
+    absent : stands (area-state lim w) l ≡ false → reply (area-state lim w) (report call (length old)) .answer ≡ refused 12 0
     unfolding reply
     absent e = rw (known, e)
 
     -- ---- listed
 
     module _ (on : stands (area-state lim w) l ≡ true) where
-      short : length old < length ls → reply (area-state lim w) call .answer ≡ refused 18 (length ls)
+      short : length old < length ls → reply (area-state lim w) (report call (length old)) .answer ≡ refused 18 (length ls)
       unfolding reply
       short h = rw (known, on, lt-ltb (length old) (length ls) h)
 
-      enough : length ls ≤ length old → reply (area-state lim w) call .answer ≡ listed ls
+      enough : length ls ≤ length old → reply (area-state lim w) (report call (length old)) .answer ≡ reported (listed ls)
       unfolding reply
       enough h = rw (known, on, le-ltb (length old) (length ls) h)
 

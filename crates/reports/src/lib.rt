@@ -127,7 +127,7 @@ fn write_rows(area: &[u64], n: usize, rows: usize, list: &mut [i64])
 // The answer on a whole area, and the list.
 fn stored_trail(area: &[u64], lim: Limits, counters: Counters, list: &mut [i64]) -> Listed
     requires { ⌜ Whole lim (now area) (counted counters) ⌝ }
-    ensures { λ r. ⌜ Listing lim (now (area .entry)) (list-trail (length (now (list .entry)))) (now (list .entry)) (now (list .exit)) r ⌝ }
+    ensures { λ r. ⌜ Listing lim (now (area .entry)) list-trail (now (list .entry)) (now (list .exit)) r ⌝ }
 {
     let n = area::atoms_of(area);
     let rows = area::length_of(area);
