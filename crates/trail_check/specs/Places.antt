@@ -4,7 +4,6 @@ use mathlib.Core.Path.{_≡_}
 use mathlib.Core.List.{List}
 use Prim.Native.Nat.{ℕ, _+_, _-_, _*_, _/_, _%_, _<_, _≤_}
 use lib.ListN.{length}
-use Rattle.types.specs.declared.Limits.{Limits}
 use Rattle.types.specs.Limits.{widest}
 use Rattle.area.specs.Layout.{value-at, literal-at, mark-at}
 

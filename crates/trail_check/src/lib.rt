@@ -16,31 +16,30 @@ pub fn header_ok(area: &[u64], lim: Limits, len: u64, level: u64) -> bool
     if area.len() == 0 {
         return false;
     }
-    let h = area[0];
-    let n = h % 65536;
-    let s = h / 65536 % 65536;
+    let n = area::atoms_of(area);
+    let s = area::sentences_of(area);
     if n == 0 {
         return false;
     }
-    if n > lim.atoms {
+    if n as u64 > lim.atoms {
         return false;
     }
-    if s > lim.sentences {
+    if s as u64 > lim.sentences {
         return false;
     }
-    if (area.len() as u64) < 4 * n + 8 * s {
+    if area.len() < 4 * n + 8 * s {
         return false;
     }
-    if h / 4294967296 % 65536 != len {
+    if area::length_of(area) as u64 != len {
         return false;
     }
-    if h / 281474976710656 != level {
+    if area::level_of(area) != level {
         return false;
     }
     if level > lim.levels {
         return false;
     }
-    if len > n {
+    if len > n as u64 {
         return false;
     }
     true
@@ -65,7 +64,7 @@ fn value_ok(area: &[u64], n: usize, len: usize, a: usize) -> bool
     requires { ⌜ Room (now area) n len × (1 ≤ a) × (a ≤ n) ⌝ }
     ensures { λ r. ⌜ Tells r (ValueOk (now (area .entry)) n len a) ⌝ }
 {
-    let v = area[n - 1 + a];
+    let v = area::value_at(area, n, a);
     if v == 0 {
         return true;
     }
@@ -73,7 +72,7 @@ fn value_ok(area: &[u64], n: usize, len: usize, a: usize) -> bool
     if at >= len {
         return false;
     }
-    let l = area[2 * n + at];
+    let l = area::literal_at(area, n, at);
     let own = 2 * (a as u64) + (v - 1) % 2;
     if l != own {
         return false;
@@ -99,7 +98,7 @@ fn place_ok(area: &[u64], n: usize, len: usize, i: usize) -> bool
     requires { ⌜ Room (now area) n len × (i < len) ⌝ }
     ensures { λ r. ⌜ Tells r (PlaceOk (now (area .entry)) n i) ⌝ }
 {
-    let l = area[2 * n + i];
+    let l = area::literal_at(area, n, i);
     let a = (l / 2) as usize;
     if a == 0 {
         return false;
@@ -107,7 +106,7 @@ fn place_ok(area: &[u64], n: usize, len: usize, i: usize) -> bool
     if a > n {
         return false;
     }
-    let v = area[n - 1 + a];
+    let v = area::value_at(area, n, a);
     let here = 1 + 2 * (i as u64) + l % 2;
     if v != here {
         return false;
@@ -138,7 +137,7 @@ fn levels_ok(area: &[u64], n: usize, len: usize, level: u64) -> bool
     let mut left = len;
     while left > 0 {
         left -= 1;
-        let g = area[3 * n + left] % 65536;
+        let g = area::row_level(area, n, left);
         if g > high {
             return false;
         }
@@ -154,10 +153,10 @@ fn rest_ok(area: &[u64], n: usize, len: usize) -> bool
 {
     let mut i = len;
     while i < n {
-        if area[2 * n + i] != 0 {
+        if area::literal_at(area, n, i) != 0 {
             return false;
         }
-        if area[3 * n + i] != 0 {
+        if area::mark_at(area, n, i) != 0 {
             return false;
         }
         i += 1;

@@ -39,5 +39,5 @@ pub header-ok-spec : {M : Type 1} → statement M
 header-ok-spec =
     tie.close
     (tie.spec
-    returns (λ c. search needs) returns-2 returns-3 returns-4 (λ c. search needs) (λ c. search needs) (λ c. search needs) returns-5 returns-6
-    returns-7 returns-8 returns-9 returns-10)
+    returns (λ c κs. search needs) (λ c κs. search needs) returns-2 returns-3 returns-4 (λ c. search needs) (λ c. search needs) (λ c. search needs)
+    returns-5 (λ c κs. search needs) returns-6 (λ c κs. search needs) returns-7 returns-8 returns-9 returns-10)

@@ -26,8 +26,8 @@ returns c = told-no (λ h. let q = rising-row _ _ _ _ (omega arith) (c .before .
 loop-again : tie.Need-loop-again Inv-loop μ-loop
 loop-again c = (
   omega arith,
-  (λ h. c .before .before .before .loop .inv .1 (rising-more _ _ _ _ (omega arith) (omega arith) h)),
-  λ h. rising-row _ _ _ _ (omega arith) (c .before .before .before .loop .inv .2 h) .1,
+  (λ h. c .before .before .before .loop .inv .1 (rising-more _ _ _ _ (omega arith) (omega arith) (rw (c .before .row-level .ensures) at h))),
+  λ h. rw (c .before .row-level .ensures) (rising-row _ _ _ _ (omega arith) (c .before .before .before .loop .inv .2 h) .1),
 )
 
 returns-2 : tie.Need-returns-2 Inv-loop μ-loop
@@ -37,5 +37,4 @@ pub levels-ok-spec : {M : Type 1} → statement M
 levels-ok-spec =
     tie.close
     (tie.spec
-    Inv-loop μ-loop loop-holds (λ c. search needs) (λ c. search needs) (λ c. search needs) (λ c. search needs) (λ c. search needs) returns
-    (λ c. search needs) loop-again returns-2)
+    Inv-loop μ-loop loop-holds (λ c. search needs) (λ c κs. search needs) returns (λ c. search needs) loop-again returns-2)

@@ -12,14 +12,13 @@ returns-2 : tie.Need-returns-2
 returns-2 c = told-no (λ h. omega arith)
 
 returns-3 : tie.Need-returns-3
-returns-3 c = told-no (λ h. omega arith)
+returns-3 c = told-no (λ h. omega (arith, rw (c .before .before .before .before .literal-at .ensures) at (c .before .value-at .ensures)))
 
 returns-4 : tie.Need-returns-4
-returns-4 c = told-yes (record { low = omega arith; high = omega arith; value = omega arith })
+returns-4 c = told-yes (record { low = omega arith; high = omega arith; value = omega (arith, rw (c .before .before .before .before .literal-at .ensures) at (c .before .value-at .ensures)) })
 
 pub place-ok-spec : {M : Type 1} → statement M
 place-ok-spec =
     tie.close
     (tie.spec
-    (λ c. search needs) (λ c. search needs) (λ c. search needs) (λ c. search needs) returns returns-2 (λ c. search needs) (λ c. search needs)
-    (λ c. search needs) (λ c. search needs) (λ c. search needs) (λ c. search needs) (λ c. search needs) returns-3 returns-4)
+    (λ c κs. search needs) returns returns-2 (λ c κs. search needs) (λ c. search needs) (λ c. search needs) (λ c. search needs) returns-3 returns-4)

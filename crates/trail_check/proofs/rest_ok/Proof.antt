@@ -33,5 +33,5 @@ pub rest-ok-spec : {M : Type 1} → statement M
 rest-ok-spec =
     tie.close
     (tie.spec
-    Inv-loop μ-loop loop-holds (λ c. search needs) (λ c. search needs) (λ c. search needs) (λ c. search needs) returns (λ c. search needs)
-    (λ c. search needs) (λ c. search needs) (λ c. search needs) returns-2 (λ c. search needs) (λ c. search needs) loop-again returns-3)
+    Inv-loop μ-loop loop-holds (λ c κs. search needs) returns (λ c κs. search needs) returns-2 (λ c. search needs) (λ c. search needs) loop-again
+    returns-3)
