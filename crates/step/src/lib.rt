@@ -27,10 +27,10 @@ pub fn cut(area: &mut [u64], n: usize, len: usize, k: u64, touched: &mut [u8]) -
     let mut left = len;
     while left > 0 {
         let last = left - 1;
-        if area[3 * n + last] % 65536 <= k {
+        if area::row_level(area, n, last) <= k {
             return left;
         }
-        let a = (area[2 * n + last] / 2) as usize;
+        let a = (area::literal_at(area, n, last) / 2) as usize;
         area[n - 1 + a] = 0;
         area[2 * n + last] = 0;
         area[3 * n + last] = 0;
@@ -45,6 +45,6 @@ pub fn set_header(area: &mut [u64], n: usize, len: usize, level: u64)
     requires { ⌜ (1 ≤ length (now area)) × (n < 65536) × (len < 65536) × (level < 65536) ⌝ }
     ensures { λ _. ⌜ now (area .exit) ≡ set (now (area .entry)) 0 (header-word n (sentences-of (now (area .entry))) len level) ⌝ }
 {
-    let s = area[0] / 65536 % 65536;
+    let s = area::sentences_of(area) as u64;
     area[0] = (n as u64) + 65536 * s + 4294967296 * (len as u64) + 281474976710656 * level;
 }
