@@ -18,10 +18,9 @@ fn entries_ok(
     ensures { λ r. ⌜ EntriesTold (now (area .entry)) n base at (now (seen .exit)) old r ⌝ }
 {
     let stamp = old + 1;
-    let head = area[base];
-    let counts = area[base + 7];
-    let written = counts % 65536;
-    let merged = (counts / 65536) as usize;
+    let head = area::head_at(area, base);
+    let written = area::written_at(area, base) as u64;
+    let merged = area::merged_at(area, base);
     let mut product = 1;
     let mut i = 0;
     while i < merged {
@@ -56,7 +55,7 @@ pub fn entries_by_kind(
     requires { ⌜ EntriesAsked (now area) n base at (now seen) old ⌝ }
     ensures { λ r. ⌜ EntriesTold (now (area .entry)) n base at (now (seen .exit)) old r ⌝ }
 {
-    match area[base + 1] % 8 {
+    match area::tag_at(area, base) % 8 {
         0 => entries_ok(area, n, base, at, 0, seen, old),
         1 => entries_ok(area, n, base, at, 1, seen, old),
         2 => entries_ok(area, n, base, at, 2, seen, old),

@@ -1,5 +1,5 @@
 -- A row's reason is right where the word at its place says so: the head's word, or half the literal's word of a merged entry.
-use mathlib.Core.Path.{_≡_, sym, ap, _∙_, subst}
+use mathlib.Core.Path.{_≡_, sym, ap, ap₂, _∙_, subst}
 use mathlib.Core.Bool.{Bool}
 use mathlib.Core.List.{List}
 use Prim.Native.Nat.{ℕ, suc, _+_, _*_, _-_, _/_, _<_, _≤_}
@@ -38,14 +38,13 @@ module _ (w : List ℕ) (n S i : ℕ) where
       (λ p. record { few = omega arith; given = λ z. p; derived = λ s d. absurd (let f : 0 ≡ suc s = sym e ∙ d in omega arith) })
       (λ h. h .given e)
 
-  pub derived-told : {r : Bool} → ¬ (row-at w n i .reason ≡ 0) → row-at w n i .reason ≤ S
-      → Tells r (HasAtom w n S (4 * n + 8 * (row-at w n i .reason - 1)) (place-at w n i) (literal-at w n i / 2)) → Tells r (Reasoned w n S i)
-  derived-told d l t = told-same t
-      (λ p. record {
-        few = l;
-        given = λ z. absurd (d z);
-        derived = λ s e.
-            let q : row-at w n i .reason - 1 ≡ s = omega arith in
-            ap {A = ℕ} (λ k. getD (scope (rule-at w n S (record-at n k))) (place-at w n i) 0) (sym q) ∙ p ∙ sym (atom-half (literal-at w n i));
+  pub derived-told : {b : Bool} (r p l : ℕ) → r ≡ row-at w n i .reason → p ≡ place-at w n i → l ≡ literal-at w n i → ¬ (r ≡ 0) → r ≤ S
+      → Tells b (HasAtom w n S (4 * n + 8 * (r - 1)) p (l / 2)) → Tells b (Reasoned w n S i)
+  derived-told r p l er ep el d few t = told-same t
+      (λ h. record {
+        few = omega arith;
+        given = λ z. absurd (d (er ∙ z));
+        derived = λ s e. let q : s ≡ r - 1 = omega arith in
+            ap₂ {A = ℕ} {B = ℕ} (λ k j. getD (scope (rule-at w n S (record-at n k))) j 0) q (sym ep) ∙ h ∙ ap {A = ℕ} (λ x. x / 2) el ∙ sym (atom-half (literal-at w n i));
       })
-      (λ h. h .derived (row-at w n i .reason - 1) (omega arith) ∙ atom-half (literal-at w n i))
+      (λ h. ap {A = ℕ} (λ j. getD (scope (rule-at w n S (record-at n (r - 1)))) j 0) ep ∙ h .derived (r - 1) (omega arith) ∙ atom-half (literal-at w n i) ∙ ap {A = ℕ} (λ x. x / 2) (sym el))

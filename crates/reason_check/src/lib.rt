@@ -12,14 +12,13 @@ fn has_atom(area: &[u64], n: usize, count: usize, base: usize, place: usize, ato
     ensures { λ r. ⌜ Tells r (HasAtom (now (area .entry)) n count base place atom) ⌝ }
 {
     if place == 0 {
-        return area[base] == atom;
+        return area::head_at(area, base) == atom;
     }
-    let merged = (area[base + 7] / 65536) as usize;
+    let merged = area::merged_at(area, base);
     if place > merged {
         return false;
     }
-    let at = 4 * n + 8 * count + 2 * area[base + 6] as usize;
-    area[at + 2 * (place - 1) + 1] / 2 == atom
+    area::entry_literal_at(area, n, count, base, place - 1) / 2 == atom
 }
 
 // Row `row` of the trail: its reason is 0, or a sentence that has the row's atom at the stored place.
@@ -27,10 +26,9 @@ fn reason_ok(area: &[u64], lim: Limits, n: usize, count: usize, len: usize, row:
     requires { ⌜ Reasonable lim (now area) n count len × (row < len) ⌝ }
     ensures { λ r. ⌜ Tells r (Reasoned (now (area .entry)) n count row) ⌝ }
 {
-    let atom = area[2 * n + row] / 2;
-    let mark = area[3 * n + row];
-    let reason = (mark / 65536 % 65536) as usize;
-    let place = (mark / 4294967296) as usize;
+    let atom = area::literal_at(area, n, row) / 2;
+    let reason = area::row_reason(area, n, row);
+    let place = area::place_at(area, n, row);
     if reason == 0 {
         return place == 0;
     }

@@ -55,10 +55,17 @@ product-word (suc (suc zero)) e = cc
 product-word (suc (suc (suc zero))) e = cc
 product-word (suc (suc (suc (suc k)))) e = cc
 
-word-product : (t : ℕ) → t ≡ 1 → kind-of t ≡ product
-word-product t e = ap {A = ℕ} kind-of e
-
 -- ---- the sentence at b, its merged entries inside the area
+
+pub own-words : (lim : Limits) (w : List ℕ) (n S b : ℕ) → SentenceOk lim w n S b → RecordOk w n b
+own-words lim w n S b s = record {
+  head-low = s .rule .head-low;
+  head-high = s .rule .head-high;
+  kind = s .kind;
+  tag = s .tag;
+  bound = s .rule .bound;
+  constant = constant-whole (kind-of (tag-at w b % 8)) (written-at w b) (word w (b + 3)) (s .rule .constant) (s .constant);
+}
 
 module _ (lim : Limits) (w : List ℕ) (n S b : ℕ) (room : entry-at w n S b + 2 * merged-at w b ≤ length w) where
   numbers : entries-of (entry-words w (entry-at w n S b) (merged-at w b)) ≡ listed (merged-at w b) (stored-entry w (entry-at w n S b))
@@ -71,57 +78,46 @@ module _ (lim : Limits) (w : List ℕ) (n S b : ℕ) (room : entry-at w n S b + 
       ∙ multiplied-listed (merged-at w b) (stored-entry w (entry-at w n S b)) (factor w (entry-at w n S b))
       (λ i l. unbias-natural (word w (entry-at w n S b + 2 * i)) (omega (arith, weight-above w n b (entry-at w n S b) i q (h i l))))
 
-  pub sentence-from : written-at w b ≤ lim .each → RecordOk w n b → EntriesOk w n b (entry-at w n S b)
-      → ((i : ℕ) → entry-at w n S b + 2 * merged-at w b ≤ i → i < entry-at w n S b + 2 * written-at w b → word w i ≡ 0) → SentenceOk lim w n S b
-  sentence-from few own es rest = record {
-    kind = own .kind;
-    tag = own .tag;
-    rule = record {
-      few = few;
-      head-low = own .head-low;
-      head-high = own .head-high;
-      bound = own .bound;
-      constant = constant-near (kind-of (tag-at w b % 8)) (written-at w b) (word w (b + 3)) (own .constant);
-      entries = subst (λ (l : List Entry). Each (EntryWhole n (word w b) (kind-of (tag-at w b % 8)) (written-at w b)) l) (sym numbers)
-          (by-each (EntryWhole n (word w b) (kind-of (tag-at w b % 8)) (written-at w b)) (merged-at w b) (stored-entry w (entry-at w n S b)) (es .each));
-      once = subst (λ (l : List Entry). Once l) (sym numbers) (by-once (merged-at w b) (stored-entry w (entry-at w n S b)) (es .once));
-      product = λ k.
-          let q = product-word (tag-at w b % 8) k in
-          subst (λ (z : ℤ). T (leZ z (pos 1000000000000000000))) (sym (product-is q (es .each)))
-          (le→leb (product-below (merged-at w b) (factor w (entry-at w n S b))) 1000000000000000000 (es .product q));
-    };
-    constant = constant-zero (kind-of (tag-at w b % 8)) (written-at w b) (word w (b + 3)) (own .constant);
-    unused = λ i l h. rest (entry-at w n S b + i) (omega arith) (omega arith);
-  }
-
-  pub own-words : SentenceOk lim w n S b → RecordOk w n b
-  own-words s = record {
-    head-low = s .rule .head-low;
-    head-high = s .rule .head-high;
-    kind = s .kind;
-    tag = s .tag;
-    bound = s .rule .bound;
-    constant = constant-whole (kind-of (tag-at w b % 8)) (written-at w b) (word w (b + 3)) (s .rule .constant) (s .constant);
-  }
-
   each-whole : SentenceOk lim w n S b → (i : ℕ) → i < merged-at w b → EntryOk w n b (entry-at w n S b) i
-  each-whole s =
-      each-by (EntryWhole n (word w b) (kind-of (tag-at w b % 8)) (written-at w b)) (merged-at w b) (stored-entry w (entry-at w n S b))
-      (subst (λ (l : List Entry). Each (EntryWhole n (word w b) (kind-of (tag-at w b % 8)) (written-at w b)) l) numbers (s .rule .entries))
-
-  pub own-entries : SentenceOk lim w n S b → EntriesOk w n b (entry-at w n S b)
-  own-entries s = record {
-    each = each-whole s;
-    once = once-by (merged-at w b) (stored-entry w (entry-at w n S b)) (subst (λ (l : List Entry). Once l) numbers (s .rule .once));
-    product = λ q. leb→le (product-below (merged-at w b) (factor w (entry-at w n S b))) 1000000000000000000
-        (subst (λ (z : ℤ). T (leZ z (pos 1000000000000000000))) (product-is q (each-whole s)) (s .rule .product (word-product (tag-at w b % 8) q)));
-  }
-
-  pub own-rest : SentenceOk lim w n S b → (i : ℕ) → entry-at w n S b + 2 * merged-at w b ≤ i → i < entry-at w n S b + 2 * written-at w b → word w i ≡ 0
-  own-rest s i l h =
-      let e : entry-at w n S b + (i - entry-at w n S b) ≡ i = omega arith in
-      ap {A = ℕ} (word w) (sym e) ∙ s .unused (i - entry-at w n S b) (omega arith) (omega arith)
+  each-whole s = each-by (EntryWhole n (word w b) (kind-of (tag-at w b % 8)) (written-at w b)) (merged-at w b) (stored-entry w (entry-at w n S b)) (rw numbers at (s .rule .entries))
 
   -- the merged entries' words are of literals
   pub literals-low : SentenceOk lim w n S b → (i : ℕ) → i < merged-at w b → 2 ≤ word w (entry-at w n S b + 2 * i + 1)
   literals-low s i l = literal-low (word w (entry-at w n S b + 2 * i + 1)) (each-whole s i l .atom-low)
+
+  -- the words behind the merged entries, up to the end of the room
+  abbrev Blank : ℕ → Type 0
+  Blank at = (i : ℕ) → at + 2 * merged-at w b ≤ i → i < at + 2 * written-at w b → word w i ≡ 0
+
+  module _ (at : ℕ) (start : at ≡ entry-at w n S b) where
+    pub sentence-from : written-at w b ≤ lim .each → RecordOk w n b → EntriesOk w n b at → Blank at → SentenceOk lim w n S b
+    sentence-from few own told rest =
+        let es : EntriesOk w n b (entry-at w n S b) = rw start at told in
+        record {
+          kind = own .kind;
+          tag = own .tag;
+          rule = record {
+            few = few;
+            head-low = own .head-low;
+            head-high = own .head-high;
+            bound = own .bound;
+            constant = constant-near (kind-of (tag-at w b % 8)) (written-at w b) (word w (b + 3)) (own .constant);
+            entries = rw numbers (by-each (EntryWhole n (word w b) (kind-of (tag-at w b % 8)) (written-at w b)) (merged-at w b) (stored-entry w (entry-at w n S b)) (es .each));
+            once = rw numbers (by-once (merged-at w b) (stored-entry w (entry-at w n S b)) (es .once));
+            product = λ k. let q = product-word (tag-at w b % 8) k in rw (product-is q (es .each)) (le→leb _ _ (es .product q));
+          };
+          constant = constant-zero (kind-of (tag-at w b % 8)) (written-at w b) (word w (b + 3)) (own .constant);
+          unused = λ i l h. rest (entry-at w n S b + i) (omega arith) (omega arith);
+        }
+
+    pub own-entries : SentenceOk lim w n S b → EntriesOk w n b at
+    own-entries s = rw start (record {
+      each = each-whole s;
+      once = once-by (merged-at w b) (stored-entry w (entry-at w n S b)) (rw numbers at (s .rule .once));
+      product = λ q. leb→le _ _ (rw (product-is q (each-whole s)) at (s .rule .product (ap {A = ℕ} kind-of q)));
+    })
+
+    pub own-rest : SentenceOk lim w n S b → Blank at
+    own-rest s i l h =
+        let e : entry-at w n S b + (i - entry-at w n S b) ≡ i = omega arith in
+        ap {A = ℕ} (word w) (sym e) ∙ s .unused (i - entry-at w n S b) (omega arith) (omega arith)

@@ -21,18 +21,17 @@ pub fn places_ok(area: &[u64], lim: Limits, n: usize, count: usize) -> bool
     let mut s = 0;
     while s < count {
         let base = 4 * n + 8 * s;
-        if area[base + 6] != before {
+        if area::before_at(area, base) != before {
             return false;
         }
-        let counts = area[base + 7];
-        let written = counts % 65536;
-        if written > lim.each {
+        let written = area::written_at(area, base);
+        if written as u64 > lim.each {
             return false;
         }
-        if counts / 65536 > written {
+        if area::merged_at(area, base) > written {
             return false;
         }
-        before += written;
+        before += written as u64;
         s += 1;
     }
     if before > lim.entries {
@@ -48,24 +47,25 @@ fn record_ok(area: &[u64], n: u64, base: usize) -> bool
     requires { ⌜ (base + 8 ≤ length (now area)) × (written-at (now area) base ≤ widest .each) ⌝ }
     ensures { λ r. ⌜ Tells r (RecordOk (now (area .entry)) n base) ⌝ }
 {
-    let head = area[base];
+    let head = area::head_at(area, base);
     if head == 0 {
         return false;
     }
     if head > n {
         return false;
     }
-    let tag = area[base + 1];
+    let tag = area::tag_at(area, base);
     if tag % 8 > 4 {
         return false;
     }
     if tag >= 32 {
         return false;
     }
-    if !word_check::near(area[base + 2], BOUND) {
+    if !word_check::near(area::bound_at(area, base), BOUND) {
         return false;
     }
-    if !word_check::constant_ok(tag % 8, area[base + 7] % 65536, area[base + 3]) {
+    let written = area::written_at(area, base) as u64;
+    if !word_check::constant_ok(tag % 8, written, area::constant_at(area, base)) {
         return false;
     }
     true
@@ -101,13 +101,12 @@ pub fn sentence_ok(
     if !record_ok(area, n as u64, base) {
         return false;
     }
-    let at = 4 * n + 8 * count + 2 * area[base + 6] as usize;
+    let at = area::entry_at(area, n, count, base);
     if !entries_check::entries_by_kind(area, n as u64, base, at, seen, old) {
         return false;
     }
-    let counts = area[base + 7];
-    let merged = (counts / 65536) as usize;
-    let written = (counts % 65536) as usize;
+    let merged = area::merged_at(area, base);
+    let written = area::written_at(area, base);
     if !blank(area, at + 2 * merged, at + 2 * written) {
         return false;
     }

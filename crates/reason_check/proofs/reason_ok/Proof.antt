@@ -8,24 +8,20 @@ use Rattle.reason_check.proofs.reason_ok.Statement.{statement}
 use Rattle.reason_check.proofs.reason_ok.Tie as tie
 
 returns : tie.Need-returns
-returns c = let s = c .before .before .before .before in given-told (s .args .area .now) (s .args .n) (s .args .count) (s .args .row) (c .if1 .taken) (told-equal _ 0)
+returns c = rw (c .before .place-at .ensures) (given-told _ _ _ _ (omega arith) (told-equal _ 0))
 
 returns-2 : tie.Need-returns-2
 returns-2 c = told-no (λ h. omega (arith, h .few))
 
 has-atom-requires : tie.Need-has-atom-requires
-has-atom-requires c κs = let s = c .before .before .before .before .before in (
-  reason-inside (s .args .lim) (s .args .area .now) (s .args .n) (s .args .count) (s .args .len) _ (s .pre .0) (c .before .if1 .left) (c .if2 .left),
-  omega (arith, s .pre .0 .literals (s .args .row) (s .pre .1)),
-)
+has-atom-requires c κs = (reason-inside _ _ _ _ _ _ (c .before .before .before .before .before .before .pre .0) (c .before .if1 .left) (c .if2 .left), omega (arith, c .before .before .before .before .before .before .pre .0 .literals _ (c .before .before .before .before .before .before .pre .1)))
 
 returns-3 : tie.Need-returns-3
-returns-3 c = let s = c .before .before .before .before .before .before in
-    derived-told (s .args .area .now) (s .args .n) (s .args .count) (s .args .row) (c .before .before .if1 .left) (c .before .if2 .left) (c .has-atom .ensures)
+returns-3 c = derived-told _ _ _ _ _ _ _ (c .before .before .before .before .row-reason .ensures) (c .before .before .before .place-at .ensures) (c .before .before .before .before .before .literal-at .ensures) (omega arith) (omega arith) (c .has-atom .ensures)
 
 pub reason-ok-spec : {M : Type 1} → statement M
 reason-ok-spec =
     tie.close
     (tie.spec
-    (λ c. search needs) (λ c. search needs) (λ c. search needs) (λ c. search needs) (λ c. search needs) (λ c. search needs) (λ c. search needs)
-    (λ c. search needs) returns returns-2 (λ c. search needs) (λ c. search needs) (λ c. search needs) (λ c. search needs) has-atom-requires returns-3)
+    (λ c κs. search needs) (λ c κs. search needs) (λ c κs. search needs) returns returns-2 (λ c. search needs) (λ c. search needs) (λ c. search needs)
+    (λ c. search needs) has-atom-requires returns-3)

@@ -18,27 +18,27 @@ Inv-loop area lim n count before₀ s₀ before s =
 abbrev μ-loop : tie.MeasureT-loop
 μ-loop area lim n count before₀ s₀ before s = count - s
 
-all : (c : tie.After-loop Inv-loop μ-loop) → entries-before (c .before .before .args .area .now) (c .before .before .args .n) (c .before .loop .s) ≡ entries-before (c .before .before .args .area .now) (c .before .before .args .n) (c .before .before .args .count)
-all c = let e : c .before .loop .s ≡ c .before .before .args .count = omega arith in ap {A = ℕ} (entries-before (c .before .before .args .area .now) (c .before .before .args .n)) e
+all : (c : tie.After-loop Inv-loop μ-loop) → entries-before (c .before .before .before .args .area .now) (c .before .before .before .args .n) (c .before .loop .s) ≡ entries-before (c .before .before .before .args .area .now) (c .before .before .before .args .n) (c .before .before .before .args .count)
+all c = let e : c .before .loop .s ≡ c .before .before .before .args .count = omega arith in ap {A = ℕ} (entries-before (c .before .before .before .args .area .now) (c .before .before .before .args .n)) e
 
 loop-holds : tie.Need-loop-holds Inv-loop μ-loop
 loop-holds c = (omega arith, sym (none-before _ _), omega arith, below-none _)
 
 returns : tie.Need-returns Inv-loop μ-loop
-returns c = told-no (λ h. c .if1 .taken (h .each (c .before .before .before .loop .s) (omega arith) .place ∙ sym (c .before .before .before .loop .inv .1)))
+returns c = told-no (λ h. omega (arith, h .each (c .before .before .before .loop .s) (omega arith) .place))
 
 returns-2 : tie.Need-returns-2 Inv-loop μ-loop
 returns-2 c = told-no (λ h. omega (arith, h .each (c .before .before .before .before .before .before .loop .s) (omega arith) .few))
 
 returns-3 : tie.Need-returns-3 Inv-loop μ-loop
-returns-3 c = told-no (λ h. omega (arith, h .each (c .before .before .before .before .before .before .before .loop .s) (omega arith) .merged))
+returns-3 c = told-no (λ h. omega (arith, h .each (c .before .before .before .before .before .before .before .before .loop .s) (omega arith) .merged))
 
 loop-again : tie.Need-loop-again Inv-loop μ-loop
 loop-again c = (
   omega arith,
-  omega (arith, one-more (c .before .before .before .before .before .before .before .before .args .area .now) (c .before .before .before .before .before .before .before .before .args .n) (c .before .before .before .before .before .before .before .loop .s)),
+  omega (arith, one-more (c .before .before .before .before .before .before .before .before .before .before .args .area .now) (c .before .before .before .before .before .before .before .before .before .before .args .n) (c .before .before .before .before .before .before .before .before .loop .s)),
   omega arith,
-  below-more _ _ (c .before .before .before .before .before .before .before .loop .inv .3) (record { place = c .before .before .before .before .if1 .left ∙ c .before .before .before .before .before .before .before .loop .inv .1; few = omega arith; merged = omega arith }),
+  below-more _ _ (c .before .before .before .before .before .before .before .before .loop .inv .3) (record { place = omega arith; few = omega arith; merged = omega arith }),
 )
 
 returns-4 : tie.Need-returns-4 Inv-loop μ-loop
@@ -58,7 +58,6 @@ pub places-ok-spec : {M : Type 1} → statement M
 places-ok-spec =
     tie.close
     (tie.spec
-    Inv-loop μ-loop loop-holds (λ c. search needs) (λ c. search needs) (λ c. search needs) (λ c. search needs) (λ c. search needs) (λ c. search needs)
-    returns (λ c. search needs) (λ c. search needs) (λ c. search needs) returns-2 returns-3 (λ c. search needs) (λ c. search needs)
-    (λ c. search needs) loop-again returns-4 (λ c. search needs) (λ c. search needs) (λ c. search needs) (λ c. search needs) (λ c. search needs)
-    returns-5 returns-6)
+    Inv-loop μ-loop loop-holds (λ c. search needs) (λ c. search needs) (λ c. search needs) (λ c κs. search needs) returns (λ c κs. search needs)
+    returns-2 (λ c κs. search needs) returns-3 (λ c. search needs) (λ c. search needs) (λ c. search needs) loop-again returns-4 (λ c. search needs)
+    (λ c. search needs) (λ c. search needs) (λ c. search needs) (λ c. search needs) returns-5 returns-6)

@@ -18,10 +18,10 @@ returns-4 : tie.Need-returns-4
 returns-4 c = told-no (λ h. omega (arith, h .tag))
 
 returns-5 : tie.Need-returns-5
-returns-5 c = told-no (λ h. denied (c .before .near .ensures) (c .if5 .taken) (h .bound))
+returns-5 c = told-no (λ h. denied (c .before .near .ensures) (c .if5 .taken) (rw (c .before .before .bound-at .ensures) (h .bound)))
 
 returns-6 : tie.Need-returns-6
-returns-6 c = told-no (λ h. denied (c .before .constant-ok .ensures) (c .if6 .taken) (h .constant))
+returns-6 c = told-no (λ h. denied (c .before .constant-ok .ensures) (c .if6 .taken) (rw (c .before .before .before .before .before .before .before .before .before .tag-at .ensures, c .before .before .before .written-at .ensures, c .before .before .constant-at .ensures) (h .constant)))
 
 returns-7 : tie.Need-returns-7
 returns-7 c = told-yes (record {
@@ -29,14 +29,13 @@ returns-7 c = told-yes (record {
   head-high = omega arith;
   kind = omega arith;
   tag = omega arith;
-  bound = granted (c .before .before .before .before .before .near .ensures) (c .before .before .before .before .if5 .left);
-  constant = granted (c .before .constant-ok .ensures) (c .if6 .left);
+  bound = rw (c .before .before .before .before .before .before .bound-at .ensures) at (granted (c .before .before .before .before .before .near .ensures) (c .before .before .before .before .if5 .left));
+  constant = rw (c .before .before .before .before .before .before .before .before .before .tag-at .ensures, c .before .before .before .written-at .ensures, c .before .before .constant-at .ensures) at (granted (c .before .constant-ok .ensures) (c .if6 .left));
 })
 
 pub record-ok-spec : {M : Type 1} → statement M
 record-ok-spec =
     tie.close
     (tie.spec
-    (λ c. search needs) (λ c. search needs) returns returns-2 (λ c. search needs) (λ c. search needs) (λ c. search needs) returns-3 returns-4
-    (λ c. search needs) (λ c. search needs) (λ c. search needs) (λ c κs. search needs) returns-5 (λ c. search needs) (λ c. search needs)
-    (λ c. search needs) (λ c. search needs) (λ c. search needs) (λ c. search needs) (λ c κs. search needs) returns-6 returns-7)
+    (λ c κs. search needs) returns returns-2 (λ c κs. search needs) returns-3 returns-4 (λ c κs. search needs) (λ c κs. search needs) returns-5
+    (λ c κs. search needs) (λ c κs. search needs) (λ c κs. search needs) returns-6 returns-7)
