@@ -3,13 +3,12 @@
 use mathlib.Core.Path.{_≡_, sym, ap, _∙_}
 use mathlib.Core.Bool.{true, false}
 use mathlib.Core.List.{List}
-use Prim.Native.Nat.{ℕ, _<_, _≤_}
+use Prim.Native.Nat.{ℕ}
 use native.Mathlib.Omega.{arith}
 use lib.IntN.{ℤ}
-use borrow.Author.Tests.{leb-false, lt-leb}
 use Rattle.decide.proofs.Tells.{told-yes, told-no}
 use Rattle.meaning.specs.Meaning as m
-use Rattle.area.specs.Layout.{tag-at, least-at, greatest-at}
+use Rattle.area.specs.Layout.{pending-at, least-at, greatest-at}
 use Rattle.area.specs.Whole.{BoundsMatch}
 use Rattle.extremes.specs.declared.Extremes.{Extremes}
 use Rattle.sentence.specs.declared.Said.{Said}
@@ -36,17 +35,17 @@ module _ {w : List ℕ} {n S b : ℕ} {found : Extremes} (are : ExtremesAre w n 
     bounds : (t : List ℤ) → Shows w n t → BoundsMatch w n S b t
     bounds t shown = record { least = least ∙ are .least-is t shown; greatest = greatest ∙ are .greatest-is t shown }
 
-    pub marked : 16 ≤ tag-at w b → TellsOver w n true (Matching w n S b)
-    marked p t shown = told-yes (record { bounds = bounds t shown; quiet = λ q. absurd (omega (arith, leb-false 16 (tag-at w b) q)) })
+    pub marked : pending-at w b ≡ true → TellsOver w n true (Matching w n S b)
+    marked p t shown = told-yes (record { bounds = bounds t shown; quiet = λ q. cc })
 
     module _ {r : Said} (is : SaidIs w n S b r) where
       pub silent : r ≡ Silent → TellsOver w n true (Matching w n S b)
       silent e t shown = told-yes (record { bounds = bounds t shown; quiet = λ q. is .said-is t shown ∙ ap said-of e })
 
-      module _ (unmarked : tag-at w b < 16) where
+      module _ (unmarked : pending-at w b ≡ false) where
         -- whatever it says, it is not silent
         spoken : speaks (said-of r) ≡ 1 → TellsOver w n false (Matching w n S b)
-        spoken e t shown = told-no (λ h. let z : 0 ≡ 1 = ap speaks (sym (h .quiet (lt-leb 16 (tag-at w b) unmarked)) ∙ is .said-is t shown) ∙ e in absurd (omega arith))
+        spoken e t shown = told-no (λ h. let z : 0 ≡ 1 = ap speaks (sym (h .quiet unmarked) ∙ is .said-is t shown) ∙ e in absurd (omega arith))
 
         pub in-conflict : r ≡ Conflict → TellsOver w n false (Matching w n S b)
         in-conflict e = spoken (ap (λ x. speaks (said-of x)) e)

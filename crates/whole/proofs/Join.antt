@@ -106,6 +106,10 @@ module _ (lim : Limits) (w : List ℕ) (len level : ℕ) where
 pub joined-at : (lim : Limits) (w : List ℕ) (len level n S : ℕ) → atoms-of w ≡ n → sentences-of w ≡ S → HeaderOk lim w len level → Held lim w n S len level
     → Whole lim w (counters len level)
 joined-at lim w len level n S e f h p =
-    let q : Held lim w (atoms-of w) (sentences-of w) len level =
-    subst (λ (k : ℕ). Held lim w k (sentences-of w) len level) (sym e) (subst (λ (k : ℕ). Held lim w n k len level) (sym f) p) in
+    let q : Held lim w (atoms-of w) (sentences-of w) len level = rw (e, f) p in
     joined lim w len level (record { header = h; trail-ok = q .trail-ok; places = q .places; sentences = q .sentences; reasons = q .reasons })
+
+pub parts-at : (lim : Limits) (w : List ℕ) (len level n S : ℕ) → atoms-of w ≡ n → sentences-of w ≡ S → Whole lim w (counters len level) → Held lim w n S len level
+parts-at lim w len level n S e f h =
+    let p = parts lim w len level h in
+    rw (← e, ← f) (record { trail-ok = p .trail-ok; places = p .places; sentences = p .sentences; reasons = p .reasons })

@@ -14,7 +14,7 @@ use Rattle.meaning.specs.Merge.{Rule}
 use Rattle.meaning.specs.Computed.{extreme, says}
 use Rattle.book.specs.Rows.{Row, trail}
 use Rattle.book.specs.Book.{Counters}
-use Rattle.area.specs.Layout.{word, atoms-of, sentences-of, length-of, level-of, rows-from, rows-of, record-at, rules-from, theory-of, need-of}
+use Rattle.area.specs.Layout.{word, atoms-of, sentences-of, length-of, rows-from, record-at, rules-from, need-of}
 use Rattle.area.specs.Whole.{Whole}
 use Rattle.theory_check.proofs.Places.{placed, room-below}
 use Rattle.whole.specs.Parts.{Matching, SentenceRight, AllRight, Parts}

@@ -16,13 +16,13 @@ fn matching(area: &[u64], n: usize, count: usize, base: usize) -> bool
     let found = extremes::extremes_of(area, n, count, base);
     let least = found.least;
     let greatest = found.greatest;
-    if area[base + 4] != least {
+    if area::least_at(area, base) != least {
         return false;
     }
-    if area[base + 5] != greatest {
+    if area::greatest_at(area, base) != greatest {
         return false;
     }
-    if area[base + 1] >= 16 {
+    if area::pending_at(area, base) {
         return true;
     }
     if sentence::settled(area, n, count, base, least, greatest) {
@@ -63,8 +63,8 @@ pub fn is_whole(area: &[u64], lim: Limits, len: u64, level: u64) -> bool
     if !trail_check::header_ok(area, lim, len, level) {
         return false;
     }
-    let n = (area[0] % 65536) as usize;
-    let count = (area[0] / 65536 % 65536) as usize;
+    let n = area::atoms_of(area);
+    let count = area::sentences_of(area);
     let rows = len as usize;
     if !trail_check::trail_ok(area, n, rows, level) {
         return false;
