@@ -1,39 +1,24 @@
 -- Weights, constants and literals by their words: a number is near 0 where its word is near 2^62, and a literal's atom is half its word.
-use mathlib.Core.Path.{_≡_, refl, sym, ap, _∙_, subst}
+use mathlib.Core.Path.{_≡_, refl, sym, ap, _∙_}
 use mathlib.Core.Bool.{Bool}
-use mathlib.Core.Logic.{_⊎_, inl, inr, ⊎-elim}
-use Prim.Native.Nat.{ℕ, zero, suc, _+_, _*_, _-_, _/_, _%_, _<_, _≤_}
+use mathlib.Core.Logic.{⊎-elim}
+use Prim.Native.Nat.{ℕ, zero, suc, _+_, _-_, _/_, _%_, _<_, _≤_}
 use native.Mathlib.Omega.{arith}
 use lib.IntN.{ℤ, pos, negsuc, natAbs}
 use lib.Signed.{leZ}
 use lib.Dec.{T, eqb}
 use borrow.Author.Tests.{eqb-true, eqb-false}
-use Rattle.types.specs.Limits.{weight-limit}
 use Rattle.decide.specs.Tells.{Tells}
 use Rattle.numbers.specs.Integers.{positive, negative}
 use Rattle.numbers.specs.Words.{half, unbias, literal-of}
-use Rattle.numbers.proofs.Integers.{ints}
+use Rattle.numbers.proofs.Integers.{ints, size-parts}
 use Rattle.numbers.proofs.Words.{cases, unbias-parts, unbias-zero, unbias-one, literal-even, literal-odd, literal-none, literal-atom}
-use Rattle.meaning.specs.Meaning.{atom, Entry}
+use Rattle.meaning.specs.Meaning.{atom}
 use Rattle.area.specs.Layout.{kind-of}
-use Rattle.area.specs.Whole.{Near, Added, Multiplied, WeightWhole}
+use Rattle.area.specs.Whole.{Near}
 use Rattle.word_check.specs.Words.{ConstantOk}
 
 -- ---- numbers
-
-near-low : (x limit : ℕ) → Near (unbias x) limit → half ≤ x + limit
-near-low x limit h = go (unbias x) (unbias-parts x) h
-  where
-    go : (z : ℤ) → positive z + half ≡ negative z + x → natAbs z ≤ limit → half ≤ x + limit
-    go (pos n) e l = omega arith
-    go (negsuc n) e l = omega arith
-
-near-high : (x limit : ℕ) → Near (unbias x) limit → x ≤ half + limit
-near-high x limit h = go (unbias x) (unbias-parts x) h
-  where
-    go : (z : ℤ) → positive z + half ≡ negative z + x → natAbs z ≤ limit → x ≤ half + limit
-    go (pos n) e l = omega arith
-    go (negsuc n) e l = omega arith
 
 pub near-yes : (x limit : ℕ) → half ≤ x + limit → x ≤ half + limit → Near (unbias x) limit
 near-yes x limit a b = go (unbias x) (unbias-parts x)
@@ -43,10 +28,10 @@ near-yes x limit a b = go (unbias x) (unbias-parts x)
     go (negsuc n) e = omega arith
 
 pub not-low : (x limit : ℕ) → limit ≤ half → x < half - limit → ¬ (Near (unbias x) limit)
-not-low x limit l h n = omega (arith, near-low x limit n)
+not-low x limit l h n = omega (arith, unbias-parts x, size-parts (unbias x))
 
 pub not-high : (x limit : ℕ) → half + limit < x → ¬ (Near (unbias x) limit)
-not-high x limit h n = omega (arith, near-high x limit n)
+not-high x limit h n = omega (arith, unbias-parts x, size-parts (unbias x))
 
 pub from-one : (x : ℕ) → half < x → T (leZ (pos 1) (unbias x))
 from-one x h = omega (ints, unbias-parts x)
@@ -68,11 +53,9 @@ atom-size (negsuc a) = refl
 
 -- of every word: 0 and 1 are of no atom
 pub atom-half : (l : ℕ) → atom (literal-of l) ≡ l / 2
-atom-half l =
-    ⊎-elim
+atom-half l = ⊎-elim
     (λ (p : 2 ≤ l). atom-size (literal-of l) ∙ literal-atom l p)
-    (λ (p : l < 2). ap {A = ℤ} atom (literal-none l p) ∙ omega arith)
-    (cases l 2)
+    (λ (p : l < 2). ap {A = ℤ} atom (literal-none l p) ∙ omega arith) (cases l 2)
 
 pub literal-low : (l : ℕ) → 1 ≤ atom (literal-of l) → 2 ≤ l
 literal-low l h = omega (arith, atom-half l)
@@ -87,24 +70,6 @@ pub odd-other : (l : ℕ) → 2 ≤ l → ¬ (l % 2 ≡ 0) → ¬ (literal-of l 
 odd-other l h n e = negative-apart (l / 2 - 1) (atom (literal-of l)) (sym (literal-odd l h (omega arith)) ∙ e)
 
 -- ---- by kind
-
-kind-as : {k : ℕ} (m : ℕ) (P : ℕ → Type 0) → k ≡ m → P m → P k
-kind-as m P e p = subst P (sym e) p
-
-pub weight-sum : {r : Bool} (k written : ℕ) (e : Entry) → (k ≡ 0) ⊎ (k ≡ 2) → Tells r (Added written e) → Tells r (WeightWhole (kind-of k) written e)
-weight-sum {r} k written e (inl q) t = kind-as 0 (λ m. Tells r (WeightWhole (kind-of m) written e)) q t
-weight-sum {r} k written e (inr q) t = kind-as 2 (λ m. Tells r (WeightWhole (kind-of m) written e)) q t
-
-pub weight-product : {r : Bool} (k written : ℕ) (e : Entry) → k ≡ 1 → Tells r (Multiplied e) → Tells r (WeightWhole (kind-of k) written e)
-weight-product {r} k written e q t = kind-as 1 (λ m. Tells r (WeightWhole (kind-of m) written e)) q t
-
-pub weight-extreme : {r : Bool} (k written : ℕ) (e : Entry) → (k ≡ 3) ⊎ (k ≡ 4) → Tells r (Near (e .weight) weight-limit) → Tells r (WeightWhole (kind-of k) written e)
-weight-extreme {r} k written e (inl q) t = kind-as 3 (λ m. Tells r (WeightWhole (kind-of m) written e)) q t
-weight-extreme {r} k written e (inr q) t = kind-as 4 (λ m. Tells r (WeightWhole (kind-of m) written e)) q t
-
-pub constant-sum : {r : Bool} (k written x : ℕ) → (k ≡ 0) ⊎ (k ≡ 2) → Tells r (Near (unbias x) (weight-limit * written)) → Tells r (ConstantOk (kind-of k) written x)
-constant-sum {r} k written x (inl q) t = kind-as 0 (λ m. Tells r (ConstantOk (kind-of m) written x)) q t
-constant-sum {r} k written x (inr q) t = kind-as 2 (λ m. Tells r (ConstantOk (kind-of m) written x)) q t
 
 pub constant-other : {r : Bool} (k written x : ℕ) → ¬ (k ≡ 0) → ¬ (k ≡ 2) → Tells r (x ≡ 0) → Tells r (ConstantOk (kind-of k) written x)
 constant-other zero written x a b t = absurd (a refl)

@@ -12,8 +12,7 @@ returns-2 : tie.Need-returns-2
 returns-2 c = told-no (λ h. h .something (no-weight (c .before .before .args .weight) (c .if2 .taken)))
 
 returns-3 : tie.Need-returns-3
-returns-3 c = told-same
-    (c .near .ensures)
+returns-3 c = told-same (c .near .ensures)
     (λ p. record {
       itself = itself-even (c .before .before .before .args .literal) (c .before .before .if1 .left);
       something = some-weight (c .before .before .before .args .weight) (c .before .if2 .left);

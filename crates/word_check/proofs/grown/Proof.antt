@@ -15,17 +15,14 @@ factor-low : (c : tie.Else1) → 1 ≤ c .before .args .weight - half
 factor-low c = omega (arith, c .before .pre .2 (c .if1 .left))
 
 mul-next : tie.Need-mul-next
-mul-next c =
-    let p = c .before .before .args .product in
-    let h : p * (c .before .before .args .weight - half) ≤ p * 18 = mul-le-mul-left p (c .if2 .taken) in
-    omega (arith, c .before .before .pre .1)
+mul-next c = let p = c .before .before .args .product in
+    let h : p * (c .before .before .args .weight - half) ≤ p * 18 = mul-le-mul-left p (c .if2 .taken) in omega (arith, c .before .before .pre .1)
 
 returns-2 : tie.Need-returns-2
 returns-2 c = record { is = λ q g. absurd (omega arith); high = omega arith; past = λ z. (c .before .before .if1 .left, c .if3 .taken) }
 
 returns-3 : tie.Need-returns-3
-returns-3 c =
-    let s = c .before .before .before in
+returns-3 c = let s = c .before .before .before in
     let h : 1 ≤ s .args .product * (s .args .weight - half) = one-le-mul (s .pre .0) (factor-low (c .before .before)) in
     record { is = λ q g. refl; high = c .if3 .left; past = λ z. absurd (omega arith) }
 
@@ -34,14 +31,12 @@ returns-4 c =
     record { is = λ q g. absurd (omega arith); high = omega arith; past = λ z. (c .before .before .if1 .left, div-lt-iff-lt-mul (factor-low (c .before .before)) .0 (c .if4 .taken)) }
 
 mul-result : tie.Need-mul-result
-mul-result c =
-    let s = c .before .before .before in
+mul-result c = let s = c .before .before .before in
     let h : s .args .product * (s .args .weight - half) ≤ 1000000000000000000 = le-div-iff-mul-le (factor-low (c .before .before)) .0 (c .if4 .left) in
     omega arith
 
 returns-5 : tie.Need-returns-5
-returns-5 c =
-    let s = c .before .before .before in
+returns-5 c = let s = c .before .before .before in
     let h : 1 ≤ s .args .product * (s .args .weight - half) = one-le-mul (s .pre .0) (factor-low (c .before .before)) in
     record { is = λ q g. refl; high = le-div-iff-mul-le (factor-low (c .before .before)) .0 (c .if4 .left); past = λ z. absurd (omega arith) }
 
