@@ -38,21 +38,7 @@ pub record Cutting (w w′ : List ℕ) (n len level k left : ℕ) (touched : Lis
 
 pub cutting-starts : (w : List ℕ) (n len level k : ℕ) (touched : List ℕ) → len ≤ n → n ≤ 4096 → 4 * n ≤ length w → TrailOk w n len level
     → length touched ≡ 4097 → Cutting w w n len level k len touched
-cutting-starts w n len level k touched fits atoms words ok size = record {
-  fits = fits;
-  atoms = atoms;
-  words = words;
-  size = refl;
-  few = omega arith;
-  rows = refl;
-  trail-ok = ok;
-  first = refl;
-  behind = λ i l. refl;
-  literals = λ i l. refl;
-  marks = λ i l. refl;
-  table = size;
-  values = λ a l h e. refl;
-}
+cutting-starts w n len level k touched fits atoms words ok size = search (refl, arith)
 
 module _ (w w′ : List ℕ) (n len level k left : ℕ) (touched : List ℕ) (c : Cutting w w′ n len level k left touched) where
   module _ (some : 0 < left) where
@@ -72,18 +58,14 @@ module _ (w w′ : List ℕ) (n len level k left : ℕ) (touched : List ℕ) (c 
     row-within = (last-low w′ n left level (c .trail-ok) some fewer room, last-high w′ n left level (c .trail-ok) some fewer room)
 
     rows-less : k < mark-at w′ n (left - 1) % 65536 → up-to k (rows-from (taken-off w′ n (left - 1)) n (left - 1)) ≡ up-to k (rows-from w n len)
-    rows-less above =
-        ap (up-to k) (off-rows w′ n left level (c .trail-ok) some fewer room)
-        ∙ sym (up-to-less k (row-at w′ n (left - 1)) (rows-from w′ n (left - 1)) above)
-        ∙ ap (up-to k) (sym (rows-last w′ n left some))
-        ∙ c .rows
+    rows-less above = ap (up-to k) (off-rows w′ n left level (c .trail-ok) some fewer room)
+        ∙ sym (up-to-less k (row-at w′ n (left - 1)) (rows-from w′ n (left - 1)) above) ∙ ap (up-to k) (sym (rows-last w′ n left some)) ∙ c .rows
 
     touched-last : word (set touched last 1) last ≡ 1
     touched-last = getD-set-same touched last 1 0 (omega (arith, c .table, c .atoms, row-within .1))
 
     values-less : (a : ℕ) → 1 ≤ a → a ≤ n → word (set touched last 1) a ≡ 0 → value-at (taken-off w′ n (left - 1)) n a ≡ value-at w n a
-    values-less a l h e =
-        same-or-not a last
+    values-less a l h e = same-or-not a last
         (λ q. let t : word (set touched last 1) a ≡ 1 = ap {A = ℕ} (word (set touched last 1)) q ∙ touched-last in absurd (omega arith))
         (λ d. off-value w′ n left level (c .trail-ok) some fewer room a l h d ∙ c .values a l h (sym (getD-set-other touched last a 1 0 d) ∙ e))
 
@@ -111,14 +93,7 @@ module _ (w w′ : List ℕ) (n len level k left : ℕ) (touched : List ℕ) (c 
     size = c .size;
     few = c .few;
     rows = sym (up-to-all k k (rows-from w′ n left) (omega arith) low) ∙ c .rows;
-    trail-ok = record {
-      atoms = c .trail-ok .atoms;
-      values = c .trail-ok .values;
-      rising = low;
-      front = c .trail-ok .front;
-      literals = c .trail-ok .literals;
-      marks = c .trail-ok .marks;
-    };
+    trail-ok = let t = c .trail-ok in record { atoms = t .atoms; values = t .values; rising = low; front = t .front; literals = t .literals; marks = t .marks };
     first = c .first;
     behind = c .behind;
     kept = λ i l. (c .literals i l, c .marks i l);

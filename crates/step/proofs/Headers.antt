@@ -31,8 +31,7 @@ pub record Headed (w w′ : List ℕ) (n len level : ℕ) : Type 0 where
   pub other : (i : ℕ) → ¬ (i ≡ 0) → word w′ i ≡ word w i
 
 pub header-set : (w : List ℕ) (n len level : ℕ) → 1 ≤ length w → n < 65536 → len < 65536 → Headed w (headed w n len level) n len level
-header-set w n len level some a c =
-    let b : sentences-of w < 65536 = omega arith in
+header-set w n len level some a c = let b : sentences-of w < 65536 = omega arith in
     let e : word (headed w n len level) 0 ≡ header-word n (sentences-of w) len level = getD-set-same w 0 (header-word n (sentences-of w) len level) 0 (omega arith) in
     record {
       size = length-set w 0 (header-word n (sentences-of w) len level);
@@ -64,16 +63,7 @@ module _ (w w′ : List ℕ) (n len level : ℕ) (some : 1 ≤ n) (h : Headed w 
   headed-stands lim v f atoms sentences records few limit low ok = record {
     fitting = f;
     atoms = h .atoms;
-    header = record {
-      atoms-low = omega (arith, h .atoms);
-      atoms-high = omega (arith, h .atoms);
-      sentences = omega (arith, h .sentences);
-      records = omega (arith, h .size, h .atoms, h .sentences);
-      length-is = h .length-is;
-      level-is = h .level-is;
-      level-limit = omega (arith, h .level-is);
-      few = omega (arith, h .atoms);
-    };
+    header = omega arith;
     trail-ok = headed-trail v low ok;
     fits = omega (arith, h .first, f .levels, f .atoms, f .sentences);
   }
@@ -81,17 +71,14 @@ module _ (w w′ : List ℕ) (n len level : ℕ) (some : 1 ≤ n) (h : Headed w 
 module _ (lim : Limits) (w : List ℕ) (n len level : ℕ) (s : Standing lim w n len level) where
   -- one level more
   pub raise-stands : level + 1 ≤ lim .levels → Standing lim (headed w n len (level + 1)) n len (level + 1)
-  raise-stands l =
-      let t = s .header in
-      headed-stands w (headed w n len (level + 1)) n len (level + 1) (omega (arith, t .atoms-low, s .atoms))
+  raise-stands l = let t = s .header in headed-stands w (headed w n len (level + 1)) n len (level + 1) (omega (arith, t .atoms-low, s .atoms))
       (header-set w n len (level + 1) (omega (arith, t .atoms-low, t .records)) (omega (arith, s .fitting .atoms)) (omega (arith, t .few, s .fitting .atoms)))
       lim level (s .fitting) (omega (arith, t .atoms-high, s .atoms)) (t .sentences) (omega (arith, t .records, s .atoms)) (omega (arith, t .few, s .atoms)) l (omega arith)
       (s .trail-ok)
 
   -- rows above level k cut, and then the counters set
   pub cut-stands : (w′ : List ℕ) (v k left : ℕ) (touched : List ℕ) → Cut w w′ n len v k left touched → k < level → Standing lim (headed w′ n left k) n left k
-  cut-stands w′ v k left touched c l =
-      let t = s .header in
+  cut-stands w′ v k left touched c l = let t = s .header in
       let e : sentences-of w′ ≡ sentences-of w = ap {A = ℕ} (λ x. x / 65536 % 65536) (c .first) in
       headed-stands w′ (headed w′ n left k) n left k (omega (arith, t .atoms-low, s .atoms))
       (header-set w′ n left k (omega (arith, t .atoms-low, t .records, c .size)) (omega (arith, s .fitting .atoms)) (omega (arith, c .few, t .few, s .fitting .atoms)))

@@ -16,7 +16,7 @@ use Rattle.meaning.specs.Computed.{free, fixed, standing}
 use Rattle.book.specs.Rows.{Row, row, trail}
 use Rattle.area.specs.Layout.{word, atoms-of, sentences-of, length-of, level-of, value-at, literal-at, mark-at, row-at, place-at, rows-from, value-word}
 use Rattle.area.specs.Whole.{AtomsOnce, Rising}
-use Rattle.trail_check.specs.Trail.{HeaderOk, TrailOk}
+use Rattle.trail_check.specs.Trail.{TrailOk}
 use Rattle.trail_check.proofs.Rows.{rows-length, atom-of}
 use Rattle.trail_check.proofs.Values.{sign-of, value-word-same, value-word-other}
 use Rattle.trail_check.proofs.Few.{few}
@@ -52,17 +52,15 @@ pub record Grown (lim : Limits) (w w′ : List ℕ) (n len level literal mark : 
 module _ (lim : Limits) (w : List ℕ) (n len level literal : ℕ) (s : Standing lim w n len level) (p : Puttable w n literal) where
   -- the rows with any row of the literal
   once-more : (v k : ℕ) → AtomsOnce n (row (literal-of literal) v k ∷ rows-from w n len)
-  once-more v k =
-      let e : atom (literal-of literal) ≡ literal / 2 = atom-of literal in
-      let low : 1 ≤ literal / 2 = omega (arith, p .low) in (
-        (
-          omega arith,
-          omega (arith, p .high),
-          zero-absent (rows-from w n len) (atom (literal-of literal))
-              (ap {A = ℕ} (value-word (rows-from w n len)) e ∙ sym (s .trail-ok .values (literal / 2) low (p .high)) ∙ p .free-atom),
-        ),
-        s .trail-ok .atoms,
-      )
+  once-more v k = let e : atom (literal-of literal) ≡ literal / 2 = atom-of literal in let low : 1 ≤ literal / 2 = omega (arith, p .low) in (
+    (
+      omega arith,
+      omega (arith, p .high),
+      zero-absent (rows-from w n len) (atom (literal-of literal))
+          (ap {A = ℕ} (value-word (rows-from w n len)) e ∙ sym (s .trail-ok .values (literal / 2) low (p .high)) ∙ p .free-atom),
+    ),
+    s .trail-ok .atoms,
+  )
 
   pub room-left : len < n
   room-left = omega (arith, few n (row (literal-of literal) 0 0 ∷ rows-from w n len) (once-more 0 0), rows-length w n len)
@@ -81,19 +79,11 @@ module _ (lim : Limits) (w : List ℕ) (n len level literal : ℕ) (s : Standing
     abbrev w′ : List ℕ
     w′ = put-on w n len literal mark
 
-    changed : Changed w w′ n len literal mark
-    changed =
-        let h : ℕ = word w 0 + 4294967296 in
-        let at : ℕ = n - 1 + literal / 2 in
-        let v : ℕ = 1 + 2 * len + literal % 2 in
-        let w1 : List ℕ = set w 0 h in
-        let w2 : List ℕ = set w1 at v in
-        let w3 : List ℕ = set w2 (2 * n + len) literal in
-        let low : 1 ≤ literal / 2 = omega (arith, p .low) in
-        let high : literal / 2 ≤ n = p .high in
-        let room : 4 * n ≤ length w = words-there in
-        let short : len < n = room-left in
-        record {
+    c : Changed w w′ n len literal mark
+    c = let h : ℕ = word w 0 + 4294967296 in let at : ℕ = n - 1 + literal / 2 in let v : ℕ = 1 + 2 * len + literal % 2 in
+        let w1 : List ℕ = set w 0 h in let w2 : List ℕ = set w1 at v in let w3 : List ℕ = set w2 (2 * n + len) literal in
+        let low : 1 ≤ literal / 2 = omega (arith, p .low) in let high : literal / 2 ≤ n = p .high in let room : 4 * n ≤ length w = words-there in
+        let short : len < n = room-left in record {
           size = simp length-set;
           first = getD-set-other w3 (3 * n + len) 0 mark 0 (omega arith) ∙ getD-set-other w2 (2 * n + len) 0 literal 0 (omega arith)
               ∙ getD-set-other w1 at 0 v 0 (omega arith) ∙ getD-set-same w 0 h 0 (omega arith);
@@ -104,9 +94,6 @@ module _ (lim : Limits) (w : List ℕ) (n len level literal : ℕ) (s : Standing
           other = λ j a b c d. getD-set-other w3 (3 * n + len) j mark 0 d ∙ getD-set-other w2 (2 * n + len) j literal 0 c
               ∙ getD-set-other w1 at j v 0 b ∙ getD-set-other w 0 j h 0 a;
         }
-
-    c : Changed w w′ n len literal mark
-    c = changed
 
     literal-same : (i : ℕ) → i < n → ¬ (i ≡ len) → literal-at w′ n i ≡ literal-at w n i
     literal-same i h d = c .other (2 * n + i) (omega arith) (omega (arith, p .high)) (omega arith) (omega (arith, room-left))
@@ -126,25 +113,20 @@ module _ (lim : Limits) (w : List ℕ) (n len level literal : ℕ) (s : Standing
     new = row (literal-of literal) level (mark / 65536 % 65536)
 
     new-row : row-at w′ n len ≡ new
-    new-row =
-        ap₂ {A = ℕ} {B = ℕ} (λ x y. row (literal-of x) (y % 65536) (y / 65536 % 65536)) (c .here) (c .marked)
+    new-row = ap₂ {A = ℕ} {B = ℕ} (λ x y. row (literal-of x) (y % 65536) (y / 65536 % 65536)) (c .here) (c .marked)
         ∙ ap {A = ℕ} (λ v. row (literal-of literal) v (mark / 65536 % 65536)) levelled
 
     rows-more : rows-from w′ n (len + 1) ≡ new ∷ rows-from w n len
     unfolding rows-from
-    rows-more =
-        ap {A = ℕ} (rows-from w′ n) (add-one len)
-        ∙ ap₂ {A = Row} {B = List Row} _∷_ new-row
+    rows-more = ap {A = ℕ} (rows-from w′ n) (add-one len) ∙ ap₂ {A = Row} {B = List Row} _∷_ new-row
         (rows-kept w w′ n len (λ i l. literal-same i (omega (arith, room-left)) (omega arith)) (λ i l. mark-same i (omega (arith, room-left)) (omega arith)))
 
     values-more : (a : ℕ) → 1 ≤ a → a ≤ n → value-at w′ n a ≡ value-word (rows-from w′ n (len + 1)) a
-    values-more a l h =
-        same-or-not a (literal / 2)
+    values-more a l h = same-or-not a (literal / 2)
         (λ e. ap {A = ℕ} (value-at w′ n) e ∙ c .value
         ∙ omega (arith, sign-of literal (p .low), rows-length w n len, value-word-same new (rows-from w n len) a (atom-of literal ∙ sym e))
         ∙ ap (λ rs. value-word rs a) (sym rows-more))
-        (λ d. value-same a l h d ∙ s .trail-ok .values a l h
-        ∙ sym (value-word-other new (rows-from w n len) a (λ e. d (sym e ∙ atom-of literal)))
+        (λ d. value-same a l h d ∙ s .trail-ok .values a l h ∙ sym (value-word-other new (rows-from w n len) a (λ e. d (sym e ∙ atom-of literal)))
         ∙ ap (λ rs. value-word rs a) (sym rows-more))
 
     trail-more : TrailOk w′ n (len + 1) level
@@ -174,23 +156,11 @@ module _ (lim : Limits) (w : List ℕ) (n len level literal : ℕ) (s : Standing
     level-same : level-of w′ ≡ level-of w
     level-same = ap {A = ℕ} (λ x. x / 281474976710656) (c .first) ∙ more-level (word w 0) length-small
 
-    header-more : HeaderOk lim w′ (len + 1) level
-    header-more = record {
-      atoms-low = omega (arith, atoms-same, s .header .atoms-low);
-      atoms-high = omega (arith, atoms-same, s .header .atoms-high);
-      sentences = omega (arith, sentences-same, s .header .sentences);
-      records = omega (arith, c .size, atoms-same, sentences-same, s .header .records);
-      length-is = length-more;
-      level-is = level-same ∙ s .header .level-is;
-      level-limit = omega (arith, level-same, s .header .level-limit);
-      few = omega (arith, atoms-same, s .atoms, room-left);
-    }
-
     standing-more : Standing lim w′ n (len + 1) level
     standing-more = record {
       fitting = s .fitting;
       atoms = atoms-same ∙ s .atoms;
-      header = header-more;
+      header = omega (arith, c .size, atoms-same, sentences-same, length-more, level-same, s .header, s .atoms, room-left);
       trail-ok = trail-more;
       fits = omega (arith, c .first, header-fits);
     }

@@ -25,8 +25,7 @@ pub rows-kept : (w w′ : List ℕ) (n k : ℕ) → ((i : ℕ) → i < k → lit
     → rows-from w′ n k ≡ rows-from w n k
 unfolding rows-from
 rows-kept w w′ n zero l m = refl
-rows-kept w w′ n (suc k) l m =
-    ap₂ {A = Row} {B = List Row} _∷_
+rows-kept w w′ n (suc k) l m = ap₂ {A = Row} {B = List Row} _∷_
     (ap₂ {A = ℕ} {B = ℕ} (λ x y. row (literal-of x) (y % 65536) (y / 65536 % 65536)) (l k (omega arith)) (m k (omega arith)))
     (rows-kept w w′ n k (λ i h. l i (omega arith)) (λ i h. m i (omega arith)))
 
@@ -34,8 +33,7 @@ rows-kept w w′ n (suc k) l m =
 
 pub zero-absent : (rs : List Row) (a : ℕ) → value-word rs a ≡ 0 → Each (λ x. ¬ (atom (x .literal) ≡ a)) rs
 zero-absent [] a e = tt
-zero-absent (r ∷ rs) a e =
-    same-or-not (atom (r .literal)) a
+zero-absent (r ∷ rs) a e = same-or-not (atom (r .literal)) a
     (λ q. absurd (omega (arith, value-word-same r rs a q)))
     (λ d. (d, zero-absent rs a (sym (value-word-other r rs a d) ∙ e)))
 
@@ -53,8 +51,7 @@ rising-higher u v (r ∷ rs) l h = (omega (arith, h .0), h .1)
 pub up-to-all : (v k : ℕ) (rs : List Row) → v ≤ k → Rising v rs → up-to k rs ≡ rs
 unfolding up-to
 up-to-all v k [] l h = refl
-up-to-all v k (r ∷ rs) l h =
-    let q : r .level ≤ k = omega (arith, h .0) in
+up-to-all v k (r ∷ rs) l h = let q : r .level ≤ k = omega (arith, h .0) in
     ap (λ b. cond b (r ∷ up-to k rs) (up-to k rs)) (le-leb (r .level) k q) ∙ ap (λ x. r ∷ x) (up-to-all (r .level) k rs q (h .1))
 
 -- a last row above k goes

@@ -22,6 +22,13 @@ module _ (w : List ℕ) (n left level : ℕ) (ok : TrailOk w n left level) (some
   abbrev w′ : List ℕ
   w′ = taken-off w n (left - 1)
 
+  -- its list while it is made
+  abbrev w1 : List ℕ
+  w1 = set w (n - 1 + literal-at w n (left - 1) / 2) 0
+
+  abbrev w2 : List ℕ
+  w2 = set w1 (2 * n + (left - 1)) 0
+
   -- the atom of the last row
   abbrev last : ℕ
   last = literal-at w n (left - 1) / 2
@@ -36,30 +43,19 @@ module _ (w : List ℕ) (n left level : ℕ) (ok : TrailOk w n left level) (some
   off-size = simp length-set
 
   value-gone : value-at w′ n last ≡ 0
-  value-gone =
-      let l = last-low in
-      let h = last-high in
-      let w1 : List ℕ = set w (n - 1 + last) 0 in
-      let w2 : List ℕ = set w1 (2 * n + (left - 1)) 0 in
+  value-gone = let l = last-low in let h = last-high in
       getD-set-other w2 (3 * n + (left - 1)) (n - 1 + last) 0 0 (omega arith) ∙ getD-set-other w1 (2 * n + (left - 1)) (n - 1 + last) 0 0 (omega arith)
       ∙ getD-set-same w (n - 1 + last) 0 0 (omega arith)
 
   literal-gone : literal-at w′ n (left - 1) ≡ 0
   literal-gone =
-      let w1 : List ℕ = set w (n - 1 + last) 0 in
-      let w2 : List ℕ = set w1 (2 * n + (left - 1)) 0 in
       getD-set-other w2 (3 * n + (left - 1)) (2 * n + (left - 1)) 0 0 (omega arith) ∙ getD-set-same w1 (2 * n + (left - 1)) 0 0 (simp length-set (omega arith))
 
   mark-gone : mark-at w′ n (left - 1) ≡ 0
-  mark-gone =
-      let w1 : List ℕ = set w (n - 1 + last) 0 in
-      let w2 : List ℕ = set w1 (2 * n + (left - 1)) 0 in
-      getD-set-same w2 (3 * n + (left - 1)) 0 0 (simp length-set (omega arith))
+  mark-gone = getD-set-same w2 (3 * n + (left - 1)) 0 0 (simp length-set (omega arith))
 
   other : (j : ℕ) → ¬ (j ≡ n - 1 + last) → ¬ (j ≡ 2 * n + (left - 1)) → ¬ (j ≡ 3 * n + (left - 1)) → word w′ j ≡ word w j
   other j a b c =
-      let w1 : List ℕ = set w (n - 1 + last) 0 in
-      let w2 : List ℕ = set w1 (2 * n + (left - 1)) 0 in
       getD-set-other w2 (3 * n + (left - 1)) j 0 0 c ∙ getD-set-other w1 (2 * n + (left - 1)) j 0 0 b ∙ getD-set-other w (n - 1 + last) j 0 0 a
 
   pub off-literal : (i : ℕ) → i < n → ¬ (i ≡ left - 1) → literal-at w′ n i ≡ literal-at w n i
@@ -88,10 +84,8 @@ module _ (w : List ℕ) (n left level : ℕ) (ok : TrailOk w n left level) (some
   once = subst (AtomsOnce n) (rows-last w n left some) (ok .atoms)
 
   values-less : (a : ℕ) → 1 ≤ a → a ≤ n → value-at w′ n a ≡ value-word (rows-from w′ n (left - 1)) a
-  values-less a l h =
-      same-or-not a last
-      (λ e. ap {A = ℕ} (value-at w′ n) e ∙ value-gone
-      ∙ sym (absent-zero (rows-from w n (left - 1)) a
+  values-less a l h = same-or-not a last
+      (λ e. ap {A = ℕ} (value-at w′ n) e ∙ value-gone ∙ sym (absent-zero (rows-from w n (left - 1)) a
       (subst (λ b. Each (λ x. ¬ (atom (x .literal) ≡ b)) (rows-from w n (left - 1))) (atom-of (literal-at w n (left - 1)) ∙ sym e) (once .0 .2)))
       ∙ ap (λ rs. value-word rs a) (sym off-rows))
       (λ d. off-value a l h d ∙ ok .values a l h ∙ ap (λ rs. value-word rs a) (rows-last w n left some)
@@ -99,8 +93,7 @@ module _ (w : List ℕ) (n left level : ℕ) (ok : TrailOk w n left level) (some
       ∙ ap (λ rs. value-word rs a) (sym off-rows))
 
   rising-less : Rising level (rows-from w′ n (left - 1))
-  rising-less =
-      let r : Rising level (top ∷ rows-from w n (left - 1)) = subst (Rising level) (rows-last w n left some) (ok .rising) in
+  rising-less = let r : Rising level (top ∷ rows-from w n (left - 1)) = subst (Rising level) (rows-last w n left some) (ok .rising) in
       subst (Rising level) (sym off-rows) (rising-higher (top .level) level (rows-from w n (left - 1)) (r .0) (r .1))
 
   pub off-trail : TrailOk w′ n (left - 1) level
@@ -109,12 +102,10 @@ module _ (w : List ℕ) (n left level : ℕ) (ok : TrailOk w n left level) (some
     values = values-less;
     rising = rising-less;
     front = λ i l h. other i (omega (arith, last-low)) (omega arith) (omega arith) ∙ ok .front i l h;
-    literals = λ i l h.
-        same-or-not i (left - 1)
+    literals = λ i l h. same-or-not i (left - 1)
         (λ e. ap {A = ℕ} (literal-at w′ n) e ∙ literal-gone)
         (λ d. off-literal i h d ∙ ok .literals i (omega arith) h);
-    marks = λ i l h.
-        same-or-not i (left - 1)
+    marks = λ i l h. same-or-not i (left - 1)
         (λ e. ap {A = ℕ} (mark-at w′ n) e ∙ mark-gone)
         (λ d. off-mark i h d ∙ ok .marks i (omega arith) h);
   }

@@ -34,38 +34,10 @@ module _ {lim : Limits} {w : List ℕ} {n S : ℕ} (asked : SentencesAsked lim w
     inside = placed lim w n S s (asked .places) l .own
 
     pub checkable : (seen : List ℕ) → Stamps seen s → Checkable lim w n S (record-at n s) seen s
-    checkable seen stamps =
-        let p = placed lim w n S s (asked .places) l in
-        record {
-          fitting = asked .fitting;
-          atoms-low = asked .atoms-low;
-          atoms-high = asked .atoms-high;
-          sentences = asked .sentences;
-          own = p .own;
-          few = p .few;
-          merged = p .merged;
-          room = p .room;
-          stamps = stamps;
-          stamps-high = omega (arith, asked .sentences, asked .fitting .sentences);
-        }
+    checkable seen stamps = let p = placed lim w n S s (asked .places) l in search arith
 
     pub ready : SentenceOk lim w n S (record-at n s) → Ready w n S (record-at n s)
-    ready ok =
-        let p = placed lim w n S s (asked .places) l in (
-          lim,
-          record {
-            fitting = asked .fitting;
-            atoms-low = asked .atoms-low;
-            atoms-high = asked .atoms-high;
-            sentences = asked .sentences;
-            values = omega (arith, asked .places .room);
-            own = p .own;
-            entries = omega (arith, p .room, p .merged);
-            merged = omega (arith, p .few, p .merged);
-            kind = ok .kind;
-            rule = ok .rule;
-          },
-        )
+    ready ok = let p = placed lim w n S s (asked .places) l in (lim, search arith)
 
     pub words-wrong : ¬ (SentenceOk lim w n S (record-at n s)) → TellsOver w n false (RightBelow lim w n S S)
     words-wrong d t _ = told-no (λ h. d (h s l .words))

@@ -1,6 +1,6 @@
 -- Wholeness leaves nothing but the pending marks open: two whole areas of one length with the same sentences, rows, level and marks, and
 -- the same words past their needs, are the same words. Sentences and needs give the numbers of word 0; the rest is determined by them.
-use mathlib.Core.Path.{_≡_, sym, _∙_, ap, subst}
+use mathlib.Core.Path.{_≡_, refl, sym, _∙_, ap}
 use mathlib.Core.Logic.{⊎-elim}
 use mathlib.Core.List.{List}
 use Prim.Native.Nat.{ℕ, zero, suc, _+_, _-_, _*_, _/_, _%_, _<_, _≤_}
@@ -18,15 +18,14 @@ use Rattle.trail_check.proofs.Rows.{rows-length}
 use Rattle.trail_check.proofs.Same.{mark-same}
 use Rattle.theory_check.proofs.Rules.{rules-length, rules-numbered}
 use Rattle.whole.specs.Parts.{Held}
-use Rattle.whole.proofs.Join.{parts}
+use Rattle.whole.proofs.Join.{parts-at}
 use Rattle.whole.proofs.DeterminedWords.{before-same, words-same}
 
 -- ---- the sentences by number
 
 rules-same : (w w′ : List ℕ) (n n′ S S′ : ℕ) → rules-from w n S 0 S ≡ rules-from w′ n′ S′ 0 S′ → S ≡ S′ → (s : ℕ) → s < S
     → rule-at w n S (record-at n s) ≡ rule-at w′ n′ S′ (record-at n′ s)
-rules-same w w′ n n′ S S′ e q s l =
-    let r = rule-at w n S (record-at n s) in
+rules-same w w′ n n′ S S′ e q s l = let r = rule-at w n S (record-at n s) in
     sym (rules-numbered w n S s r l) ∙ ap {A = List Rule} (λ rs. getD rs s r) e ∙ rules-numbered w′ n′ S′ s r (omega arith)
 
 -- ---- word 0 is its four fields
@@ -40,30 +39,18 @@ fields-same x y e f g h = mark-same x y e f (last-two x y g h)
 
 -- ---- the parts, with the numbers of another area that are the same
 
-held : (lim : Limits) (w : List ℕ) (c : Counters) → Whole lim w c → Held lim w (atoms-of w) (sentences-of w) (length-of w) (c .level-is)
-held lim w c h =
-    let p = parts lim w (c .length-is) (c .level-is) h in
-    let r : Held lim w (atoms-of w) (sentences-of w) (c .length-is) (c .level-is) =
-    record { trail-ok = p .trail-ok; places = p .places; sentences = p .sentences; reasons = p .reasons } in
-    subst (λ (len : ℕ). Held lim w (atoms-of w) (sentences-of w) len (c .level-is)) (sym (h .length-is)) r
-
-renamed : (lim : Limits) (w : List ℕ) (n n′ S S′ len len′ level : ℕ) → n′ ≡ n → S′ ≡ S → len′ ≡ len → Held lim w n′ S′ len′ level → Held lim w n S len level
-renamed lim w n n′ S S′ len len′ level e f g h =
-    subst (λ (k : ℕ). Held lim w n S k level) g (subst (λ (k : ℕ). Held lim w n k len′ level) f (subst (λ (k : ℕ). Held lim w k S′ len′ level) e h))
+held : (lim : Limits) (w : List ℕ) (c : Counters) (n S len : ℕ) → atoms-of w ≡ n → sentences-of w ≡ S → length-of w ≡ len → Whole lim w c
+    → Held lim w n S len (c .level-is)
+held lim w c n S len e f g h = let q : len ≡ c .length-is = sym g ∙ h .length-is in rw q (parts-at lim w (c .length-is) (c .level-is) n S e f h)
 
 -- ---- the two areas
 
-module _ (lim : Limits) (w w′ : List ℕ) (c c′ : Counters) (h : Whole lim w c) (h′ : Whole lim w′ c′)
-    (lengths : length w ≡ length w′)
-    (theories : theory-of w ≡ theory-of w′)
-    (rows : rows-of w ≡ rows-of w′)
-    (levels : level-of w ≡ level-of w′)
+module _ (lim : Limits) (w w′ : List ℕ) (c c′ : Counters) (h : Whole lim w c) (h′ : Whole lim w′ c′) (lengths : length w ≡ length w′)
+    (theories : theory-of w ≡ theory-of w′) (rows : rows-of w ≡ rows-of w′) (levels : level-of w ≡ level-of w′)
     (marks : (s : ℕ) → s < sentences-of w → pending-at w (record-at (atoms-of w) s) ≡ pending-at w′ (record-at (atoms-of w′) s))
     (rests : drop (need-of w) w ≡ drop (need-of w′) w′) where
   sentences-same : sentences-of w ≡ sentences-of w′
-  sentences-same =
-      sym (rules-length w (atoms-of w) (sentences-of w) 0 (sentences-of w))
-      ∙ ap {A = List Rule} length theories
+  sentences-same = sym (rules-length w (atoms-of w) (sentences-of w) 0 (sentences-of w)) ∙ ap {A = List Rule} length theories
       ∙ rules-length w′ (atoms-of w′) (sentences-of w′) 0 (sentences-of w′)
 
   rule-same : (s : ℕ) → s < sentences-of w
@@ -71,8 +58,7 @@ module _ (lim : Limits) (w w′ : List ℕ) (c c′ : Counters) (h : Whole lim w
   rule-same = rules-same w w′ (atoms-of w) (atoms-of w′) (sentences-of w) (sentences-of w′) theories sentences-same
 
   entries-same : entries-before w (atoms-of w) (sentences-of w) ≡ entries-before w′ (atoms-of w′) (sentences-of w′)
-  entries-same =
-      before-same w w′ (atoms-of w) (atoms-of w′) (sentences-of w) (λ s l. ap {A = Rule} (λ r. r .written) (rule-same s l))
+  entries-same = before-same w w′ (atoms-of w) (atoms-of w′) (sentences-of w) (λ s l. ap {A = Rule} (λ r. r .written) (rule-same s l))
       ∙ ap {A = ℕ} (entries-before w′ (atoms-of w′)) sentences-same
 
   needs-same : need-of w ≡ need-of w′
@@ -90,8 +76,7 @@ module _ (lim : Limits) (w w′ : List ℕ) (c c′ : Counters) (h : Whole lim w
       counted n n′ S S′ E E′ p q e = omega arith
 
   length-same : length-of w ≡ length-of w′
-  length-same =
-      sym (rows-length w (atoms-of w) (length-of w)) ∙ ap {A = List Row} length rows ∙ rows-length w′ (atoms-of w′) (length-of w′)
+  length-same = sym (rows-length w (atoms-of w) (length-of w)) ∙ ap {A = List Row} length rows ∙ rows-length w′ (atoms-of w′) (length-of w′)
 
   first-same : word w 0 ≡ word w′ 0
   first-same = fields-same (word w 0) (word w′ 0) atoms-same sentences-same length-same levels
@@ -104,15 +89,10 @@ module _ (lim : Limits) (w w′ : List ℕ) (c c′ : Counters) (h : Whole lim w
   S = sentences-of w
 
   rows-here : rows-from w n (length-of w) ≡ rows-from w′ n (length-of w)
-  rows-here =
-      rows
-      ∙ ap {A = ℕ} (λ k. rows-from w′ k (length-of w′)) (sym atoms-same)
-      ∙ ap {A = ℕ} (rows-from w′ n) (sym length-same)
+  rows-here = rows ∙ ap {A = ℕ} (λ k. rows-from w′ k (length-of w′)) (sym atoms-same) ∙ ap {A = ℕ} (rows-from w′ n) (sym length-same)
 
   rules-here : (s : ℕ) → s < S → rule-at w n S (record-at n s) ≡ rule-at w′ n S (record-at n s)
-  rules-here s l =
-      rule-same s l
-      ∙ ap {A = ℕ} (λ k. rule-at w′ k (sentences-of w′) (record-at k s)) (sym atoms-same)
+  rules-here s l = rule-same s l ∙ ap {A = ℕ} (λ k. rule-at w′ k (sentences-of w′) (record-at k s)) (sym atoms-same)
       ∙ ap {A = ℕ} (λ k. rule-at w′ n k (record-at n s)) (sym sentences-same)
 
   marks-here : (s : ℕ) → s < S → pending-at w (record-at n s) ≡ pending-at w′ (record-at n s)
@@ -120,26 +100,12 @@ module _ (lim : Limits) (w w′ : List ℕ) (c c′ : Counters) (h : Whole lim w
 
   needed-same : (i : ℕ) → i < need-of w → word w i ≡ word w′ i
   needed-same zero l = first-same
-  needed-same (suc i) l =
-      words-same lim w w′ n S (length-of w) (c .level-is) (c′ .level-is)
-      (held lim w c h)
-      (renamed lim w′ n (atoms-of w′) S (sentences-of w′) (length-of w) (length-of w′) (c′ .level-is) (sym atoms-same) (sym sentences-same) (sym length-same) (held lim w′ c′ h′))
-      rows-here
-      rules-here
-      marks-here
-      (suc i)
-      (omega arith)
-      l
+  needed-same (suc i) l = words-same lim w w′ n S (length-of w) (c .level-is) (c′ .level-is) (held lim w c n S (length-of w) refl refl refl h)
+      (held lim w′ c′ n S (length-of w) (sym atoms-same) (sym sentences-same) (sym length-same) h′) rows-here rules-here marks-here (suc i) (omega arith) l
 
   rest-same : (i : ℕ) → need-of w ≤ i → word w i ≡ word w′ i
-  rest-same i l =
-      let k = i - need-of w in
-      let e : i ≡ need-of w + k = omega arith in
-      let e′ : need-of w′ + k ≡ i = omega (arith, needs-same) in
-      ap {A = ℕ} (word w) e
-      ∙ sym (getD-drop (need-of w) w k 0)
-      ∙ ap {A = List ℕ} (λ l. getD l k 0) rests
-      ∙ getD-drop (need-of w′) w′ k 0
+  rest-same i l = let k = i - need-of w in let e : i ≡ need-of w + k = omega arith in let e′ : need-of w′ + k ≡ i = omega (arith, needs-same) in
+      ap {A = ℕ} (word w) e ∙ sym (getD-drop (need-of w) w k 0) ∙ ap {A = List ℕ} (λ l. getD l k 0) rests ∙ getD-drop (need-of w′) w′ k 0
       ∙ ap {A = ℕ} (word w′) e′
 
   pub determined : w ≡ w′

@@ -51,8 +51,7 @@ scope-distinct {lim} {n} {r} h = (
 module _ (lim : Limits) (w w′ : List ℕ) (n S i : ℕ) where
   pub place-same : Reasoned w n S i → Reasoned w′ n S i → row-at w n i ≡ row-at w′ n i → 1 ≤ atom (row-at w n i .literal)
       → ((s : ℕ) → s < S → RuleWhole lim n (rule-at w n S (record-at n s)))
-      → ((s : ℕ) → s < S → rule-at w n S (record-at n s) ≡ rule-at w′ n S (record-at n s))
-      → place-at w n i ≡ place-at w′ n i
+      → ((s : ℕ) → s < S → rule-at w n S (record-at n s) ≡ rule-at w′ n S (record-at n s)) → place-at w n i ≡ place-at w′ n i
   place-same h h′ row low whole rules = go (row-at w n i .reason) refl
     where
       reasons : row-at w n i .reason ≡ row-at w′ n i .reason
@@ -60,12 +59,8 @@ module _ (lim : Limits) (w w′ : List ℕ) (n S i : ℕ) where
 
       go : (k : ℕ) → row-at w n i .reason ≡ k → place-at w n i ≡ place-at w′ n i
       go zero e = h .given e ∙ sym (h′ .given (sym reasons ∙ e))
-      go (suc s) e =
-          let l : s < S = omega (arith, h .few) in
+      go (suc s) e = let l : s < S = omega (arith, h .few) in
           distinct-place (scope (rule-at w n S (record-at n s))) (atom (row-at w n i .literal)) (place-at w n i) (place-at w′ n i)
-          (scope-distinct (whole s l))
-          low
-          (h .derived s e)
-          (ap {A = Rule} (λ r. getD (scope r) (place-at w′ n i) 0) (rules s l)
-          ∙ h′ .derived s (sym reasons ∙ e)
+          (scope-distinct (whole s l)) low (h .derived s e)
+          (ap {A = Rule} (λ r. getD (scope r) (place-at w′ n i) 0) (rules s l) ∙ h′ .derived s (sym reasons ∙ e)
           ∙ ap {A = Row} (λ r. atom (r .literal)) (sym row))

@@ -34,11 +34,9 @@ module _ (lim : Limits) (w w′ : List ℕ) (n S len level level′ : ℕ) (h : 
   -- ---- the trail
 
   places-same : (i : ℕ) → i < len → place-at w n i ≡ place-at w′ n i
-  places-same i l =
-      place-same lim w w′ n S i (h .reasons i l) (h′ .reasons i l) (rows-same w w′ n len rows i l)
+  places-same i l = place-same lim w w′ n S i (h .reasons i l) (h′ .reasons i l) (rows-same w w′ n len rows i l)
       (omega (arith, atom-of (literal-at w n i), atom-low w n len i l (h .trail-ok .atoms)))
-      (λ s m. h .sentences s m .words .rule)
-      rules
+      (λ s m. h .sentences s m .words .rule) rules
 
   -- ---- a sentence
 
@@ -46,28 +44,18 @@ module _ (lim : Limits) (w w′ : List ℕ) (n S len level level′ : ℕ) (h : 
   written-same s l = ap {A = Rule} (λ r. r .written) (rules s l)
 
   sentence-same : (s : ℕ) → s < S → SameWords w w′ n S (record-at n s)
-  sentence-same s l =
-      let b = record-at n s in
-      let t : trail (rows-from w n len) ≡ trail (rows-from w′ n len) = ap {A = List Row} trail rows in
-      let m = h .sentences s l in
-      let m′ = h′ .sentences s l in
-      let p = placed lim w n S s (h .places) l in
-      let p′ = placed lim w′ n S s (h′ .places) l in
-      same-sentence lim w w′ n S b
+  sentence-same s l = let b = record-at n s in let t : trail (rows-from w n len) ≡ trail (rows-from w′ n len) = ap {A = List Row} trail rows in
+      let m = h .sentences s l in let m′ = h′ .sentences s l in let p = placed lim w n S s (h .places) l in
+      let p′ = placed lim w′ n S s (h′ .places) l in same-sentence lim w w′ n S b
       (record { whole = m .words; merged = p .merged; room = p .room })
-      (record { whole = m′ .words; merged = p′ .merged; room = p′ .room })
-      (record {
+      (record { whole = m′ .words; merged = p′ .merged; room = p′ .room }) (record {
         rule = rules s l;
         place = h .places .each s l .place ∙ before-same w w′ n n s (λ j k. written-same j (omega arith)) ∙ sym (h′ .places .each s l .place);
         pending = marks s l;
-        least = m .matching .bounds .least
-            ∙ ap {A = Rule} (λ r. word-of (extreme down r (trail (rows-from w n len)))) (rules s l)
-            ∙ ap {A = List ℤ} (λ x. word-of (extreme down (rule-at w′ n S b) x)) t
-            ∙ sym (m′ .matching .bounds .least);
-        greatest = m .matching .bounds .greatest
-            ∙ ap {A = Rule} (λ r. word-of (extreme up r (trail (rows-from w n len)))) (rules s l)
-            ∙ ap {A = List ℤ} (λ x. word-of (extreme up (rule-at w′ n S b) x)) t
-            ∙ sym (m′ .matching .bounds .greatest);
+        least = m .matching .bounds .least ∙ ap {A = Rule} (λ r. word-of (extreme down r (trail (rows-from w n len)))) (rules s l)
+            ∙ ap {A = List ℤ} (λ x. word-of (extreme down (rule-at w′ n S b) x)) t ∙ sym (m′ .matching .bounds .least);
+        greatest = m .matching .bounds .greatest ∙ ap {A = Rule} (λ r. word-of (extreme up r (trail (rows-from w n len)))) (rules s l)
+            ∙ ap {A = List ℤ} (λ x. word-of (extreme up (rule-at w′ n S b) x)) t ∙ sym (m′ .matching .bounds .greatest);
       })
 
   -- ---- all sentences
@@ -77,28 +65,21 @@ module _ (lim : Limits) (w w′ : List ℕ) (n S len level level′ : ℕ) (h : 
   moved i at k e q = ap {A = ℕ} (word w) (sym e) ∙ q ∙ ap {A = ℕ} (word w′) e
 
   records-same : (i : ℕ) → 4 * n ≤ i → i < 4 * n + 8 * S → word w i ≡ word w′ i
-  records-same i l m =
-      let s = (i - 4 * n) / 8 in
+  records-same i l m = let s = (i - 4 * n) / 8 in
       moved i (record-at n s) ((i - 4 * n) % 8) (omega arith) (sentence-same s (omega arith) .own ((i - 4 * n) % 8) (omega arith))
 
   -- the rooms of the first k sentences
   rooms-same : (k : ℕ) → k ≤ S → (i : ℕ) → 4 * n + 8 * S ≤ i → i < 4 * n + 8 * S + 2 * entries-before w n k → word w i ≡ word w′ i
   unfolding entries-before
   rooms-same zero f i l m = let b : ⊥ = omega arith in absurd b
-  rooms-same (suc k) f i l m =
-      let at = 4 * n + 8 * S + 2 * entries-before w n k in
-      let e : before-at w (record-at n k) ≡ entries-before w n k = h .places .each k f .place in
-      ⊎-elim
+  rooms-same (suc k) f i l m = let at = 4 * n + 8 * S + 2 * entries-before w n k in
+      let e : before-at w (record-at n k) ≡ entries-before w n k = h .places .each k f .place in ⊎-elim
       (λ (q : at ≤ i). moved i (entry-at w n S (record-at n k)) (i - at) (omega arith) (sentence-same k f .entries (i - at) (omega arith)))
-      (λ (q : i < at). rooms-same k (omega arith) i l q)
-      (cases i at)
+      (λ (q : i < at). rooms-same k (omega arith) i l q) (cases i at)
 
   pub words-same : (i : ℕ) → 1 ≤ i → i < 4 * n + 8 * S + 2 * entries-before w n S → word w i ≡ word w′ i
-  words-same i l m =
-      ⊎-elim
+  words-same i l m = ⊎-elim
       (λ (p : 4 * n ≤ i). ⊎-elim
       (λ (q : 4 * n + 8 * S ≤ i). rooms-same S (omega arith) i q m)
-      (λ (q : i < 4 * n + 8 * S). records-same i p q)
-      (cases i (4 * n + 8 * S)))
-      (λ (p : i < 4 * n). same-trail (h .trail-ok) (h′ .trail-ok) rows places-same i l p)
-      (cases i (4 * n))
+      (λ (q : i < 4 * n + 8 * S). records-same i p q) (cases i (4 * n + 8 * S)))
+      (λ (p : i < 4 * n). same-trail (h .trail-ok) (h′ .trail-ok) rows places-same i l p) (cases i (4 * n))

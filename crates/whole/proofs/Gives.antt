@@ -21,9 +21,9 @@ use Rattle.extremes.specs.Stored.{Ready}
 use Rattle.trail_check.proofs.Rows.{atom-of, atom-low}
 use Rattle.trail_check.proofs.Shown.{once-consistent}
 use Rattle.theory_check.proofs.Rules.{rules-length, rules-numbered}
-use Rattle.theory_check.proofs.Places.{placed}
 use Rattle.whole.specs.Gives.{ReasonInside, BoundsAre, Silent}
 use Rattle.whole.proofs.Join.{parts}
+use Rattle.whole.proofs.CheckSentences.{ready as readable}
 use Rattle.whole.proofs.DeterminedPlaces.{place-in}
 use Rattle.whole.proofs.DeterminedWords.{before-same}
 use Rattle.whole.proofs.GivesExtremes.{extreme-back}
@@ -46,10 +46,7 @@ judged-count w = judged-length (theory-of w) ∙ rules-length w (atoms-of w) (se
 
 pub numbered-rule : (w : List ℕ) (d : Judged) (s : ℕ) → s < sentences-of w
     → numbered d (suc s) (judged-all (theory-of w)) ≡ judged (rule-at w (atoms-of w) (sentences-of w) (record-at (atoms-of w) s))
-numbered-rule w d s l =
-    let n = atoms-of w in
-    let S = sentences-of w in
-    let r = rule-at w n S (record-at n s) in
+numbered-rule w d s l = let n = atoms-of w in let S = sentences-of w in let r = rule-at w n S (record-at n s) in
     judged-number d r s (theory-of w) (omega (arith, rules-length w n S 0 S)) ∙ ap {A = Rule} judged (rules-numbered w n S s r l)
 
 -- ---- what wholeness gives
@@ -79,23 +76,9 @@ module _ (lim : Limits) (w : List ℕ) (c : Counters) (h : Whole lim w c) where
 
   -- its words can be evaluated
   pub ready : Fitting lim → (s : ℕ) → s < S → Ready w n S (record-at n s)
-  ready fit s l =
-      let p = placed lim w n S s (parts lim w (c .length-is) (c .level-is) h .places) l in
-      let x = h .theory .each s l in (
-        lim,
-        record {
-          fitting = fit;
-          atoms-low = h .theory .atoms-low;
-          atoms-high = h .theory .atoms-high;
-          sentences = h .theory .sentences;
-          values = omega (arith, h .enough);
-          own = p .own;
-          entries = omega (arith, p .room, p .merged);
-          merged = omega (arith, p .few, p .merged);
-          kind = x .kind;
-          rule = x .rule;
-        },
-      )
+  ready fit s l = let p = parts lim w (c .length-is) (c .level-is) h in
+      readable (record { fitting = fit; atoms-low = h .theory .atoms-low; atoms-high = h .theory .atoms-high; sentences = h .theory .sentences; places = p .places })
+      s l (p .sentences s l .words)
 
   pub bounds-are : Fitting lim → (s : ℕ) → s < S → BoundsAre w n S (record-at n s) (trail (rows-of w))
   bounds-are fit s l = record {
@@ -113,8 +96,7 @@ module _ (lim : Limits) (w : List ℕ) (c : Counters) (h : Whole lim w c) where
 
   -- every word that the need reads stands inside the area
   pub need-stays : (rest : List ℕ) → need-of (w ++ rest) ≡ need-of w
-  need-stays rest =
-      let v = w ++ rest in
+  need-stays rest = let v = w ++ rest in
       let first : word v 0 ≡ word w 0 = List·getD-append w rest 0 0 (omega (arith, h .enough, h .theory .atoms-low)) in
       ap {A = ℕ} (λ x. 4 * (x % 65536) + 8 * (x / 65536 % 65536) + 2 * entries-before v (x % 65536) (x / 65536 % 65536)) first
       ∙ ap {A = ℕ} (λ x. 4 * n + 8 * S + 2 * x)

@@ -51,8 +51,7 @@ inside-or-off a (e ∷ es) = go (ℕ-discrete (place e) a) (inside-or-off a es)
     go (no n) (inr o) = inr (n, o)
 
 outside-undue : (r : Rule) (t : List ℤ) (l : ℤ) → refuted r t ≡ false → ¬ (r .head ≡ atom l) → Off (atom l) (r .set .entries) → due r t l ≡ false
-outside-undue r t l f n off =
-    let e : atom (negℤ l) ≡ atom l = opposite-atom l in
+outside-undue r t l f n off = let e : atom (negℤ l) ≡ atom l = opposite-atom l in
     let same : refuted r (negℤ l ∷ t) ≡ refuted r t = refuted-outside r t (negℤ l) (λ q. n (q ∙ e)) (subst (λ a. Off a (r .set .entries)) (sym e) off) in
     ap {A = Bool} (λ x. is-free (standing t (atom l)) && x) (same ∙ f) ∙ go (is-free (standing t (atom l)))
   where

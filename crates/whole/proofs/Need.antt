@@ -60,9 +60,7 @@ module _ (lim : Limits) (w w′ : List ℕ) (c : Counters) (h : Whole lim w c) (
   theory-same : SameTheory w w′ n S
   theory-same = record {
     records = λ s l. same-record w w′ (record-at n s) (λ i m u. same i (omega arith)) (h .theory .each s l .tag);
-    entries = λ s l.
-        let p = placed lim w n S s (old .places) l in
-        let q = room-below lim w n S s (old .places) l in
+    entries = λ s l. let p = placed lim w n S s (old .places) l in let q = room-below lim w n S s (old .places) l in
         entries-inside w w′ n S (record-at n s) (p .merged) (p .room) (omega (arith, q)) (λ i u. same i (omega (arith, q)));
   }
 
@@ -70,30 +68,23 @@ module _ (lim : Limits) (w w′ : List ℕ) (c : Counters) (h : Whole lim w c) (
   t = trail (rows-from w n (c .length-is))
 
   matching : (s : ℕ) → s < S → Matching w′ n S (record-at n s) t
-  matching s l =
-      let b = record-at n s in
-      let rule = rule-stays theory-same s l in
-      let m = old .sentences s l .matching in
-      record {
-        bounds = record {
-          least = same (b + 4) (omega arith) ∙ m .bounds .least ∙ ap {A = Rule} (λ r. word-of (extreme down r t)) (sym rule);
-          greatest = same (b + 5) (omega arith) ∙ m .bounds .greatest ∙ ap {A = Rule} (λ r. word-of (extreme up r t)) (sym rule);
-        };
-        quiet = λ e. ap {A = Rule} (λ r. says r t) rule ∙ m .quiet (ap {A = ℕ} (leb 16) (sym (same (b + 1) (omega arith))) ∙ e);
-      }
+  matching s l = let b = record-at n s in let rule = rule-stays theory-same s l in let m = old .sentences s l .matching in record {
+    bounds = record {
+      least = same (b + 4) (omega arith) ∙ m .bounds .least ∙ ap {A = Rule} (λ r. word-of (extreme down r t)) (sym rule);
+      greatest = same (b + 5) (omega arith) ∙ m .bounds .greatest ∙ ap {A = Rule} (λ r. word-of (extreme up r t)) (sym rule);
+    };
+    quiet = λ e. ap {A = Rule} (λ r. says r t) rule ∙ m .quiet (ap {A = ℕ} (leb 16) (sym (same (b + 1) (omega arith))) ∙ e);
+  }
 
   right : AllRight lim w′ n S (c .length-is)
-  right s l =
-      subst (λ (rs : List Row). SentenceRight lim w′ n S (record-at n s) (trail rs)) (sym rows-same)
+  right s l = subst (λ (rs : List Row). SentenceRight lim w′ n S (record-at n s) (trail rs)) (sym rows-same)
       (record { words = sentence-stays theory-same lim s l (old .sentences s l .words); matching = matching s l })
 
   -- ---- all
 
   pub whole-alike : Whole lim w′ c
-  whole-alike =
-      joined-at lim w′ (c .length-is) (c .level-is) n S atoms-same sentences-same
-      (header-stays lim w w′ (c .length-is) (c .level-is) (omega arith) first (old .header))
-      (record {
+  whole-alike = joined-at lim w′ (c .length-is) (c .level-is) n S atoms-same sentences-same
+      (header-stays lim w w′ (c .length-is) (c .level-is) (omega arith) first (old .header)) (record {
         trail-ok = trail-stays w w′ n front (c .length-is) (c .level-is) few (old .trail-ok);
         places = places-stay theory-same lim room (old .places);
         sentences = right;

@@ -97,16 +97,14 @@ module _ (lim : Limits) (w : List ℕ) (c : Counters) (h : Whole lim w c) where
   S = sentences-of w
 
   pub merged : (s : ℕ) → s < S → IsMerged (rule-at w n S (record-at n s))
-  merged s l =
-      let r = rule-at w n S (record-at n s) in
+  merged s l = let r = rule-at w n S (record-at n s) in
       whole-merged lim n r (h .theory .each s l .rule) (unmixed-zero (r .kind) (word w (record-at n s + 3)))
 
   pub all-merged : Each IsMerged (theory-of w)
   all-merged = rules-each IsMerged w n S 0 S (omega arith) merged
 
   pub well-formed : Each (WellFormed n) (map as-sentence (theory-of w))
-  well-formed =
-      mapped n (theory-of w)
+  well-formed = mapped n (theory-of w)
       (rules-each (λ r. WellFormed n (as-sentence r)) w n S 0 S (omega arith) (λ s l. whole-formed lim n (rule-at w n S (record-at n s)) (h .theory .each s l .rule)))
 
 -- ---- and what they say

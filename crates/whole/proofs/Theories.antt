@@ -39,14 +39,9 @@ module _ {w w′ : List ℕ} {n S : ℕ} (same : SameTheory w w′ n S) where
   before-stays (suc s) h = ap₂ {A = ℕ} {B = ℕ} (λ x y. x + y % 65536) (before-stays s (omega arith)) (same .records s h .counts)
 
   pub places-stay : (lim : Limits) → 4 * n + 8 * S + 2 * entries-before w n S ≤ length w′ → PlacesOk lim w n S → PlacesOk lim w′ n S
-  places-stay lim room p =
-      let all = before-stays S (omega arith) in
-      record {
-        each = λ s h.
-            let q = same .records s h in
-            let o = p .each s h in
-            let c = q .counts in
-            record { place = q .before ∙ o .place ∙ sym (before-stays s (omega arith)); few = omega (arith, o .few); merged = omega (arith, o .merged) };
-        entries = omega (arith, p .entries);
-        room = omega arith;
-      }
+  places-stay lim room p = let all = before-stays S (omega arith) in record {
+    each = λ s h. let q = same .records s h in let o = p .each s h in let c = q .counts in
+        record { place = q .before ∙ o .place ∙ sym (before-stays s (omega arith)); few = omega (arith, o .few); merged = omega (arith, o .merged) };
+    entries = omega (arith, p .entries);
+    room = omega arith;
+  }

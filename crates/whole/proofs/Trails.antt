@@ -53,28 +53,23 @@ module _ (w w′ : List ℕ) (n : ℕ) (front : (i : ℕ) → i < 4 * n → word
   rows-stay (suc k) h = ap₂ {A = Row} {B = List Row} (λ r rs. r ∷ rs) (row-stays k h) (rows-stay k (omega arith))
 
   pub trail-stays : (len level : ℕ) → len ≤ n → TrailOk w n len level → TrailOk w′ n len level
-  trail-stays len level few t =
-      let rows = rows-stay len few in
-      record {
-        atoms = subst (AtomsOnce n) (sym rows) (t .atoms);
-        values = λ a low high. value-stays a low high ∙ t .values a low high ∙ ap {A = List Row} (λ rs. value-word rs a) (sym rows);
-        rising = subst (Rising level) (sym rows) (t .rising);
-        front = λ i l h. front i (omega arith) ∙ t .front i l h;
-        literals = λ i l h. literal-stays i h ∙ t .literals i l h;
-        marks = λ i l h. mark-stays i h ∙ t .marks i l h;
-      }
+  trail-stays len level few t = let rows = rows-stay len few in record {
+    atoms = subst (AtomsOnce n) (sym rows) (t .atoms);
+    values = λ a low high. value-stays a low high ∙ t .values a low high ∙ ap {A = List Row} (λ rs. value-word rs a) (sym rows);
+    rising = subst (Rising level) (sym rows) (t .rising);
+    front = λ i l h. front i (omega arith) ∙ t .front i l h;
+    literals = λ i l h. literal-stays i h ∙ t .literals i l h;
+    marks = λ i l h. mark-stays i h ∙ t .marks i l h;
+  }
 
   -- a reason names a sentence of the theory, so that the rule of its number is the same
   pub reason-stays : (S i : ℕ) → SameTheory w w′ n S → i < n → Reasoned w n S i → Reasoned w′ n S i
-  reason-stays S i same h r =
-      let m = mark-stays i h in
+  reason-stays S i same h r = let m = mark-stays i h in
       let reason : row-at w′ n i .reason ≡ row-at w n i .reason = ap {A = ℕ} (λ x. x / 65536 % 65536) m in
-      let place : mark-at w′ n i / 4294967296 ≡ mark-at w n i / 4294967296 = ap {A = ℕ} (λ x. x / 4294967296) m in
-      record {
+      let place : mark-at w′ n i / 4294967296 ≡ mark-at w n i / 4294967296 = ap {A = ℕ} (λ x. x / 4294967296) m in record {
         few = subst (λ (x : ℕ). x ≤ S) (sym reason) (r .few);
         given = λ z. place ∙ r .given (sym reason ∙ z);
-        derived = λ s e.
-            let q : row-at w n i .reason ≡ suc s = sym reason ∙ e in
+        derived = λ s e. let q : row-at w n i .reason ≡ suc s = sym reason ∙ e in
             ap₂ {A = Rule} {B = ℕ} (λ x j. getD (scope x) j 0) (rule-stays same s (omega (arith, r .few))) place
             ∙ r .derived s q ∙ ap {A = ℕ} (λ x. atom (literal-of x)) (sym (literal-stays i h));
       }

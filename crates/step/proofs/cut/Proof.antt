@@ -17,49 +17,32 @@ abbrev μ-loop : tie.MeasureT-loop
 μ-loop area₀ n len k touched₀ left₀ area touched left = left
 
 loop-holds : tie.Need-loop-holds Inv-loop μ-loop
-loop-holds c =
-    let s = c .before .before .pre .0 .standing in
+loop-holds c = let s = c .before .before .pre .0 .standing in
     cutting-starts _ _ _ _ _ _ (omega arith) (omega arith) (omega arith) (subst (TrailOk _ _ _) (sym (s .header .level-is)) (s .trail-ok)) (c .before .before .pre .1)
 
 returns : tie.Need-returns Inv-loop μ-loop
 returns c = cut-at-row _ _ _ _ _ _ _ _ (c .before .before .before .before .loop .inv) (c .before .before .before .loop-test .taken) (omega arith) _
 
 -- the last row is of an atom
-last-row : (c : tie.After-literal-at Inv-loop μ-loop)
-    → (1 ≤ literal-at (c .before .before .before .before .before .before .loop .area) (c .before .before .before .before .before .before .before .before .before .args .n) (c .before .before .before .before .before .before .loop .left - 1) / 2)
-    × (literal-at (c .before .before .before .before .before .before .loop .area) (c .before .before .before .before .before .before .before .before .before .args .n) (c .before .before .before .before .before .before .loop .left - 1) / 2
-    ≤ c .before .before .before .before .before .before .before .before .before .args .n)
+last-row : (c : tie.After-literal-at Inv-loop μ-loop) → let l = c .before .before .before .before .before .before .loop in let n = c .before .before .before .before .before .before .before .before .before .args .n in
+    (1 ≤ literal-at (l .area) n (l .left - 1) / 2) × (literal-at (l .area) n (l .left - 1) / 2 ≤ n)
 last-row c = row-within _ _ _ _ _ _ _ _ (c .before .before .before .before .before .before .loop .inv) (c .before .before .before .before .before .loop-test .taken)
 
 literal-at-requires : tie.Need-literal-at-requires Inv-loop μ-loop
 literal-at-requires c κs = literal-there _ _ _ _ _ _ _ _ (c .before .before .before .before .before .loop .inv) (c .before .before .before .before .loop-test .taken)
 
-add-area : tie.Need-add-area Inv-loop μ-loop
-add-area c = let q = last-row c in omega arith
-
-mul-area : tie.Need-mul-area Inv-loop μ-loop
-mul-area c = let q = last-row c in omega arith
-
-slice-write-area : tie.Need-slice-write-area Inv-loop μ-loop
-slice-write-area c = let q = last-row c in omega arith
-
 slice-write-area-2 : tie.Need-slice-write-area-2 Inv-loop μ-loop
 slice-write-area-2 c = simp length-set (literal-there _ _ _ _ _ _ _ _ (c .before .before .before .before .before .before .loop .inv) (c .before .before .before .before .before .loop-test .taken))
 
-slice-write-touched : tie.Need-slice-write-touched Inv-loop μ-loop
-slice-write-touched c = let q = last-row c in omega arith
-
 loop-again : tie.Need-loop-again Inv-loop μ-loop
 loop-again c = rw (c .literal-at .ensures) (cutting-goes-on _ _ _ _ _ _ _ _ (c .before .before .before .before .before .before .loop .inv) (c .before .before .before .before .before .loop-test .taken) (omega arith))
-
-returns-2 : tie.Need-returns-2 Inv-loop μ-loop
-returns-2 c = cut-at-none _ _ _ _ _ _ _ _ (c .before .loop .inv) (c .loop-test .left) _
 
 pub cut-spec : {M : Type 1} → statement M
 cut-spec =
     tie.close
     (tie.spec
     Inv-loop μ-loop loop-holds (λ c. search needs) (λ c κs. search needs) (λ c. search needs) (λ c. search needs) returns literal-at-requires
-    (λ c. search needs) add-area mul-area slice-write-area (λ c. search needs) (λ c. search needs) (λ c. search needs) slice-write-area-2
-    (λ c. search needs) (λ c. search needs) (λ c. search needs) (λ c. simp length-set (omega arith)) slice-write-touched (λ c. search needs) loop-again
-    (λ c. search needs) (λ c. search needs) returns-2)
+    (λ c. search needs) (λ c. omega (arith, last-row c)) (λ c. omega (arith, last-row c)) (λ c. omega (arith, last-row c)) (λ c. search needs)
+    (λ c. search needs) (λ c. search needs) slice-write-area-2 (λ c. search needs) (λ c. search needs) (λ c. search needs)
+    (λ c. simp length-set (omega arith)) (λ c. omega (arith, last-row c)) (λ c. search needs) loop-again (λ c. search needs) (λ c. search needs)
+    (λ c. cut-at-none _ _ _ _ _ _ _ _ (c .before .loop .inv) (c .loop-test .left) _))

@@ -60,8 +60,7 @@ reasons-ok-requires c κs = let h = header (c .before .before .before .before .b
     record { fitting = c .before .before .before .before .before .before .before .before .before .before .before .pre; atoms-low = omega arith; atoms-high = omega arith; sentences = omega arith; few = omega arith; places = places (c .before .before); literals = literals (trail-right (c .before .before .before .before)) }
 
 returns-5 : tie.Need-returns-5
-returns-5 c =
-    told-same (c .reasons-ok .ensures)
+returns-5 c = told-same (c .reasons-ok .ensures)
     (λ r. joined-at _ _ _ _ _ _ (sym (c .before .before .before .before .before .before .before .before .atoms-of .ensures)) (sym (c .before .before .before .before .before .before .before .sentences-of .ensures)) (header (c .before .before .before .before .before .before .before .before .before))
     (record { trail-ok = trail-right (c .before .before .before .before .before); places = places (c .before .before .before); sentences = granted (sentences (c .before .before)) (c .before .if4 .left); reasons = r }))
     (λ h. held (c .before .before .before .before .before .before .before) h .reasons)
@@ -70,5 +69,5 @@ pub is-whole-spec : {M : Type 1} → statement M
 is-whole-spec =
     tie.close
     (tie.spec
-    (λ c κs. search needs) returns (λ c κs. omega (arith, header c)) (λ c κs. omega (arith, header (c .before))) trail-ok-requires returns-2 places-ok-requires returns-3
-    sentences-ok-requires returns-4 reasons-ok-requires returns-5)
+    (λ c κs. search needs) returns (λ c κs. omega (arith, header c)) (λ c κs. omega (arith, header (c .before))) trail-ok-requires returns-2
+    places-ok-requires returns-3 sentences-ok-requires returns-4 reasons-ok-requires returns-5)

@@ -20,12 +20,6 @@ abbrev μ-loop : tie.MeasureT-loop
 own-inside : (c : tie.In-loop Inv-loop μ-loop) → record-at (c .before .before .before .args .n) (c .before .loop .s) + 8 ≤ length (c .before .before .before .args .area .now)
 own-inside c = inside (c .before .before .before .pre) (c .before .loop .s) (c .loop-test .taken)
 
-loop-holds : tie.Need-loop-holds Inv-loop μ-loop
-loop-holds c = none-passed (c .before .pre)
-
-slice-aggregate-sentence-ok : tie.Need-slice-aggregate-sentence-ok Inv-loop μ-loop
-slice-aggregate-sentence-ok c = sym (c .before .before .loop .inv .stamps .size)
-
 sentence-ok-requires : tie.Need-sentence-ok-requires Inv-loop μ-loop
 sentence-ok-requires c κs = checkable (c .before .before .before .before .pre) (c .before .before .loop .s) (c .before .loop-test .taken) _ (c .before .before .loop .inv .stamps)
 
@@ -48,6 +42,6 @@ pub sentences-ok-spec : {M : Type 1} → statement M
 sentences-ok-spec =
     tie.close
     (tie.spec
-    Inv-loop μ-loop loop-holds (λ c. omega (arith, own-inside c)) (λ c. omega (arith, own-inside c)) (λ c. omega (arith, own-inside c))
-    slice-aggregate-sentence-ok (λ c. search needs) sentence-ok-requires returns matching-requires returns-2 (λ c. search needs) (λ c. search needs)
-    loop-again returns-3)
+    Inv-loop μ-loop (λ c. none-passed (c .before .pre)) (λ c. omega (arith, own-inside c)) (λ c. omega (arith, own-inside c))
+    (λ c. omega (arith, own-inside c)) (λ c. sym (c .before .before .loop .inv .stamps .size)) (λ c. search needs) sentence-ok-requires returns
+    matching-requires returns-2 (λ c. search needs) (λ c. search needs) loop-again returns-3)
