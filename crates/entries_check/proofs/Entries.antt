@@ -1,6 +1,6 @@
 -- The check of the entries, entry by entry: those passed are whole, their atoms are stamped, and their product is the running one. The
 -- product of weights from 1 on does not fall, so that one that has passed 10^18 stays past it.
-use mathlib.Core.Path.{_≡_, sym, ap, _∙_, subst}
+use mathlib.Core.Path.{_≡_, sym, ap, _∙_}
 use mathlib.Core.Bool.{true, false}
 use mathlib.Core.List.{List}
 use Prim.Native.Nat.{ℕ, zero, suc, _+_, _*_, _-_, _/_, _%_, _<_, _≤_}
@@ -12,9 +12,8 @@ use Rattle.decide.specs.Below.{product-below}
 use Rattle.decide.proofs.Below.{product-none, product-step}
 use Rattle.decide.proofs.Tells.{told-yes, told-no}
 use Rattle.numbers.specs.Words.{half}
-use Rattle.meaning.specs.Meaning.{Entry}
 use Rattle.area.specs.Layout.{word, tag-at, written-at, merged-at, kind-of}
-use Rattle.area.specs.Whole.{WeightWhole, Multiplied, EntryWhole}
+use Rattle.area.specs.Whole.{Multiplied, EntryWhole}
 use Rattle.word_check.specs.Words.{Grown}
 use Rattle.entries_check.specs.Entries.{stored-entry, factor, Stamps, EntriesTold}
 use Rattle.word_check.proofs.Weights.{atom-half, one-from}
@@ -23,19 +22,16 @@ use Rattle.entries_check.proofs.Stamping.{Stamped, none-stamped, met-be
 -- a product does not fall where its factors are from 1 on
 grow-by : (f : ℕ → ℕ) (k d : ℕ) → ((j : ℕ) → j < k + d → 1 ≤ f j) → product-below k f ≤ product-below (k + d) f
 grow-by f k zero h = let e : k + 0 ≡ k = omega arith in omega (arith, ap {A = ℕ} (λ n. product-below n f) e)
-grow-by f k (suc d) h =
-    let e : k + suc d ≡ k + d + 1 = omega arith in
-    omega (
-      arith,
-      grow-by f k d (λ j l. h j (omega arith)),
-      product-step (k + d) f,
-      ap {A = ℕ} (λ n. product-below n f) e,
-      le-mul-of-pos-right (product-below (k + d) f) (h (k + d) (omega arith)),
-    )
+grow-by f k (suc d) h = let e : k + suc d ≡ k + d + 1 = omega arith in omega (
+  arith,
+  grow-by f k d (λ j l. h j (omega arith)),
+  product-step (k + d) f,
+  ap {A = ℕ} (λ n. product-below n f) e,
+  le-mul-of-pos-right (product-below (k + d) f) (h (k + d) (omega arith)),
+)
 
 pub product-grows : (f : ℕ → ℕ) (k m : ℕ) → k ≤ m → ((j : ℕ) → j < m → 1 ≤ f j) → product-below k f ≤ product-below m f
-product-grows f k m l h =
-    let e : k + (m - k) ≡ m = omega arith in
+product-grows f k m l h = let e : k + (m - k) ≡ m = omega arith in
     omega (arith, grow-by f k (m - k) (λ j t. h j (omega arith)), ap {A = ℕ} (λ n. product-below n f) e)
 
 abbrev pub atom-at : List ℕ → ℕ → ℕ → ℕ
@@ -52,12 +48,9 @@ pub record Passed (w : List ℕ) (n b at old i : ℕ) (seen : List ℕ) (product
   pub high : product ≤ 1000000000000000000
   pub is : tag-at w b % 8 ≡ 1 → product ≡ product-below i (factor w at)
 
-pub product-weight : (k written : ℕ) (e : Entry) → k ≡ 1 → WeightWhole (kind-of k) written e → Multiplied e
-product-weight k written e q h = subst (λ (m : ℕ). WeightWhole (kind-of m) written e) q h
-
 -- a weight of a product is above the word of 0
 pub weight-above : (w : List ℕ) (n b at k : ℕ) → tag-at w b % 8 ≡ 1 → EntryOk w n b at k → half < word w (at + 2 * k)
-weight-above w n b at k q e = one-from (word w (at + 2 * k)) (product-weight (tag-at w b % 8) (written-at w b) (stored-entry w at k) q (e .weighs) .low)
+weight-above w n b at k q e = let m : Multiplied (stored-entry w at k) = rw q at (e .weighs) in one-from (word w (at + 2 * k)) (m .low)
 
 module _ (w : List ℕ) (n b at old : ℕ) where
   pub none-passed : (seen : List ℕ) → Stamps seen old → Passed w n b at old 0 seen 1

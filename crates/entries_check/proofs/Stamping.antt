@@ -41,9 +41,7 @@ none-stamped f old seen s = record {
 module _ (f : ℕ → ℕ) (old i : ℕ) (seen : List ℕ) (s : Stamped f old i seen) (low : f i < 4097) where
   -- an atom with a stamp of this sentence is that of an earlier entry
   pub met-before : (n : ℕ) → i < n → old < word seen (f i) → ((j k : ℕ) → j < n → k < n → f j ≡ f k → j ≡ k) → ⊥
-  met-before n l h o =
-      let k = s .back (f i) low h in
-      let e = o (k .0) i (omega (arith, k .1)) l (k .2) in omega (arith, k .1)
+  met-before n l h o = let k = s .back (f i) low h in let e = o (k .0) i (omega (arith, k .1)) l (k .2) in omega (arith, k .1)
 
   module _ (v : ℕ) (new : v ≡ old + 1) (fresh : word seen (f i) ≤ old) where
     here : word (set seen (f i) v) (f i) ≡ old + 1
@@ -64,11 +62,9 @@ module _ (f : ℕ → ℕ) (old i : ℕ) (seen : List ℕ) (s : Stamped f old i 
       apart = all-apart;
       forth = λ k l. ⊎-elim
           (λ (e : k ≡ i). ap {A = ℕ} (λ j. word (set seen (f i) v) (f j)) e ∙ here)
-          (λ (m : k < i). getD-set-other seen (f i) (f k) v 0 (other k m) ∙ s .forth k m)
-          (eq-or-lt-of-le (omega arith));
+          (λ (m : k < i). getD-set-other seen (f i) (f k) v 0 (other k m) ∙ s .forth k m) (eq-or-lt-of-le (omega arith));
       back = λ a l h. same-or a (f i) (λ e. (i, omega arith, sym e)) (λ d.
-          let o = s .back a l (subst (λ (x : ℕ). old < x) (getD-set-other seen (f i) a v 0 d) h) in
-          (o .0, omega (arith, o .1), o .2));
+          let o = s .back a l (subst (λ (x : ℕ). old < x) (getD-set-other seen (f i) a v 0 d) h) in (o .0, omega (arith, o .1), o .2));
       upto = λ a l. same-or a (f i)
           (λ e. omega (arith, here, ap {A = ℕ} (λ j. word (set seen (f i) v) j) e))
           (λ d. omega (arith, getD-set-other seen (f i) a v 0 d, s .upto a l));

@@ -30,17 +30,14 @@ moved w i j k l p q = ap₂ {A = ℕ} {B = ℕ} (λ a b. entry-of (word w a) (wo
 
 pub entries-listed : (w : List ℕ) (at k : ℕ) → at + 2 * k ≤ length w → entries-of (entry-words w at k) ≡ listed k (stored-entry w at)
 unfolding entries-of
-entries-listed w at zero h =
-    let e : at + 2 * 0 ≡ at = omega arith in
+entries-listed w at zero h = let e : at + 2 * 0 ≡ at = omega arith in
     ap {A = ℕ} (λ n. entries-of (slice at n w)) e ∙ ap {A = List ℕ} entries-of (slice-empty at w)
-entries-listed w at (suc k) h =
-    let e : slice at (at + 2 * suc k) w ≡ word w at ∷ word w (suc at) ∷ slice (suc (suc at)) (at + 2 * suc k) w =
+entries-listed w at (suc k) h = let e : slice at (at + 2 * suc k) w ≡ word w at ∷ word w (suc at) ∷ slice (suc (suc at)) (at + 2 * suc k) w =
     slice-cons at (at + 2 * suc k) w 0 (omega arith) h
     ∙ ap {A = List ℕ} (λ l. word w at ∷ l) (slice-cons (suc at) (at + 2 * suc k) w 0 (omega arith) h) in
     let q : at + 2 * suc k ≡ suc (suc at) + 2 * k = omega arith in
     let rest : entries-of (slice (suc (suc at)) (at + 2 * suc k) w) ≡ listed k (λ i. stored-entry w at (suc i)) =
-    ap {A = ℕ} (λ n. entries-of (slice (suc (suc at)) n w)) q
-    ∙ entries-listed w (suc (suc at)) k (omega arith)
+    ap {A = ℕ} (λ n. entries-of (slice (suc (suc at)) n w)) q ∙ entries-listed w (suc (suc at)) k (omega arith)
     ∙ listed-same k (stored-entry w (suc (suc at))) (λ i. stored-entry w at (suc i))
     (λ i. moved w (suc (suc at) + 2 * i) (suc (suc at) + 2 * i + 1) (at + 2 * suc i) (at + 2 * suc i + 1) (omega arith) (omega arith)) in
     ap {A = List ℕ} entries-of e

@@ -19,8 +19,7 @@ one-more w n s = ap {A = ℕ} (entries-before w n) (add-one s)
 
 more-entries : (w : List ℕ) (n s k : ℕ) → entries-before w n s ≤ entries-before w n (s + k)
 more-entries w n s zero = let e : s + 0 ≡ s = omega arith in omega (arith, ap {A = ℕ} (entries-before w n) e)
-more-entries w n s (suc k) =
-    let e : s + suc k ≡ s + k + 1 = omega arith in
+more-entries w n s (suc k) = let e : s + suc k ≡ s + k + 1 = omega arith in
     omega (arith, more-entries w n s k, one-more w n (s + k), ap {A = ℕ} (entries-before w n) e)
 
 -- sentence s in the places of all
@@ -33,16 +32,8 @@ pub record Placed (lim : Limits) (w : List ℕ) (n S s : ℕ) : Type 0 where
 -- the rooms of the sentences, one behind the other, end where those of all do
 pub room-below : (lim : Limits) (w : List ℕ) (n S s : ℕ) → PlacesOk lim w n S → s < S
     → entry-at w n S (record-at n s) + 2 * written-at w (record-at n s) ≤ 4 * n + 8 * S + 2 * entries-before w n S
-room-below lim w n S s p l =
-    let e : s + 1 + (S - (s + 1)) ≡ S = omega arith in
+room-below lim w n S s p l = let e : s + 1 + (S - (s + 1)) ≡ S = omega arith in
     omega (arith, p .each s l .place, one-more w n s, more-entries w n (s + 1) (S - (s + 1)), ap {A = ℕ} (entries-before w n) e)
 
 pub placed : (lim : Limits) (w : List ℕ) (n S s : ℕ) → PlacesOk lim w n S → s < S → Placed lim w n S s
-placed lim w n S s p l =
-    let q = p .each s l in
-    record {
-      own = omega (arith, p .room);
-      few = q .few;
-      merged = q .merged;
-      room = omega (arith, room-below lim w n S s p l, p .room);
-    }
+placed lim w n S s p l = let q = p .each s l in omega (arith, p .room, room-below lim w n S s p l)

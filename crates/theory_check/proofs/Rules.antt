@@ -23,12 +23,9 @@ rule-number : (w : List ℕ) (n S s k i : ℕ) (d : Rule) → i < k → getD (ru
 unfolding rules-from
 rule-number w n S s zero i d h = let b : ⊥ = omega arith in absurd b
 rule-number w n S s (suc k) zero d h = let e : s ≡ s + 0 = omega arith in ap {A = ℕ} (λ j. rule-at w n S (record-at n j)) e
-rule-number w n S s (suc k) (suc i) d h =
-    let e : suc s + i ≡ s + suc i = omega arith in
+rule-number w n S s (suc k) (suc i) d h = let e : suc s + i ≡ s + suc i = omega arith in
     rule-number w n S (suc s) k i d (omega arith) ∙ ap {A = ℕ} (λ j. rule-at w n S (record-at n j)) e
 
 -- whatever stands for a rule past the end
 pub rules-numbered : (w : List ℕ) (n S k : ℕ) (d : Rule) → k < S → getD (rules-from w n S 0 S) k d ≡ rule-at w n S (record-at n k)
-rules-numbered w n S k d h =
-    let e : 0 + k ≡ k = omega arith in
-    rule-number w n S 0 S k d h ∙ ap {A = ℕ} (λ j. rule-at w n S (record-at n j)) e
+rules-numbered w n S k d h = let e : 0 + k ≡ k = omega arith in rule-number w n S 0 S k d h ∙ ap {A = ℕ} (λ j. rule-at w n S (record-at n j)) e

@@ -77,11 +77,9 @@ constant-one maximum x y e p q = p tt ∙ sym (q tt)
 constant-one minimum x y e p q = p tt ∙ sym (q tt)
 
 tag-one : (s t : ℕ) → s < 32 → t < 32 → s % 8 ≡ t % 8 → s / 8 % 2 ≡ t / 8 % 2 → leb 16 s ≡ leb 16 t → s ≡ t
-tag-one s t a b p q e =
-    ⊎-elim
+tag-one s t a b p q e = ⊎-elim
     (λ (h : 16 ≤ s). let g : 16 ≤ t = leb-true 16 t (sym e ∙ le-leb 16 s h) in omega arith)
-    (λ (h : s < 16). let g : t < 16 = leb-false 16 t (sym e ∙ lt-leb 16 s h) in omega arith)
-    (cases s 16)
+    (λ (h : s < 16). let g : t < 16 = leb-false 16 t (sym e ∙ lt-leb 16 s h) in omega arith) (cases s 16)
 
 literal-one : (x y : ℕ) → 2 ≤ x → 2 ≤ y → literal-of x ≡ literal-of y → x ≡ y
 literal-one x y a b e = sym (literal-word-of x a) ∙ ap {A = ℤ} literal-word e ∙ literal-word-of y b
@@ -107,8 +105,7 @@ module _ (lim : Limits) (w w′ : List ℕ) (n S b : ℕ) (p : Inside lim w n S 
   same-written = ap {A = Rule} (λ r. r .written) (a .rule)
 
   same-merged : merged-at w b ≡ merged-at w′ b
-  same-merged =
-      sym (entries-length w (entry-at w n S b) (merged-at w b) (omega (arith, p .room, p .merged)))
+  same-merged = sym (entries-length w (entry-at w n S b) (merged-at w b) (omega (arith, p .room, p .merged)))
       ∙ ap {A = Rule} (λ r. length (r .set .entries)) (a .rule)
       ∙ entries-length w′ (entry-at w′ n S b) (merged-at w′ b) (omega (arith, p′ .room, p′ .merged))
 
@@ -116,8 +113,7 @@ module _ (lim : Limits) (w w′ : List ℕ) (n S b : ℕ) (p : Inside lim w n S 
   none = record { weight = pos 0; literal = pos 0 }
 
   same-entry : (i : ℕ) → i < merged-at w b → stored-entry w (entry-at w n S b) i ≡ stored-entry w′ (entry-at w′ n S b) i
-  same-entry i l =
-      sym (entry-is w (entry-at w n S b) (merged-at w b) i none (omega (arith, p .room, p .merged)) l)
+  same-entry i l = sym (entry-is w (entry-at w n S b) (merged-at w b) i none (omega (arith, p .room, p .merged)) l)
       ∙ ap {A = Rule} (λ r. getD (r .set .entries) i none) (a .rule)
       ∙ entry-is w′ (entry-at w′ n S b) (merged-at w′ b) i none (omega (arith, p′ .room, p′ .merged)) (omega (arith, same-merged))
 
@@ -129,29 +125,22 @@ module _ (lim : Limits) (w w′ : List ℕ) (n S b : ℕ) (p : Inside lim w n S 
   same-weight i l = unbias-one (word w (entry-at w n S b + 2 * i)) (word w′ (entry-at w′ n S b + 2 * i)) (ap {A = Entry} (λ e. e .weight) (same-entry i l))
 
   same-literal : (i : ℕ) → i < merged-at w b → Same (2 * i + 1)
-  same-literal i l =
-      let x : entry-at w n S b + (2 * i + 1) ≡ entry-at w n S b + 2 * i + 1 = omega arith in
-      let y : entry-at w′ n S b + 2 * i + 1 ≡ entry-at w′ n S b + (2 * i + 1) = omega arith in
-      ap {A = ℕ} (word w) x
+  same-literal i l = let x : entry-at w n S b + (2 * i + 1) ≡ entry-at w n S b + 2 * i + 1 = omega arith in
+      let y : entry-at w′ n S b + 2 * i + 1 ≡ entry-at w′ n S b + (2 * i + 1) = omega arith in ap {A = ℕ} (word w) x
       ∙ literal-one (word w (entry-at w n S b + 2 * i + 1)) (word w′ (entry-at w′ n S b + 2 * i + 1))
       (literals-low lim w n S b (omega (arith, p .room, p .merged)) (p .whole) i l)
       (literals-low lim w′ n S b (omega (arith, p′ .room, p′ .merged)) (p′ .whole) i (omega (arith, same-merged)))
-      (ap {A = Entry} (λ e. e .literal) (same-entry i l))
-      ∙ ap {A = ℕ} (word w′) y
+      (ap {A = Entry} (λ e. e .literal) (same-entry i l)) ∙ ap {A = ℕ} (word w′) y
 
   same-used : (i : ℕ) → i < 2 * merged-at w b → Same i
-  same-used i l =
-      ⊎-elim
+  same-used i l = ⊎-elim
       (λ (h : 1 ≤ i % 2). let e : 2 * (i / 2) + 1 ≡ i = omega arith in subst Same e (same-literal (i / 2) (omega arith)))
-      (λ (h : i % 2 < 1). let e : 2 * (i / 2) ≡ i = omega arith in subst Same e (same-weight (i / 2) (omega arith)))
-      (cases (i % 2) 1)
+      (λ (h : i % 2 < 1). let e : 2 * (i / 2) ≡ i = omega arith in subst Same e (same-weight (i / 2) (omega arith))) (cases (i % 2) 1)
 
   same-room : (i : ℕ) → i < 2 * written-at w b → Same i
-  same-room i l =
-      ⊎-elim
+  same-room i l = ⊎-elim
       (λ (h : 2 * merged-at w b ≤ i). p .whole .unused i h l ∙ sym (p′ .whole .unused i (omega (arith, same-merged)) (omega (arith, same-written))))
-      (λ (h : i < 2 * merged-at w b). same-used i h)
-      (cases i (2 * merged-at w b))
+      (λ (h : i < 2 * merged-at w b). same-used i h) (cases i (2 * merged-at w b))
 
   same-kind : tag-at w b % 8 ≡ tag-at w′ b % 8
   same-kind =
@@ -162,11 +151,9 @@ module _ (lim : Limits) (w w′ : List ℕ) (n S b : ℕ) (p : Inside lim w n S 
       sym (side-back (tag-at w b / 8 % 2) (omega arith)) ∙ ap {A = Rule} (λ r. side-word (r .side)) (a .rule) ∙ side-back (tag-at w′ b / 8 % 2) (omega arith)
 
   same-constant : word w (b + 3) ≡ word w′ (b + 3)
-  same-constant =
-      constant-one (kind-of (tag-at w b % 8)) (word w (b + 3)) (word w′ (b + 3))
+  same-constant = constant-one (kind-of (tag-at w b % 8)) (word w (b + 3)) (word w′ (b + 3))
       (subst (λ (m : ℕ). constant-of (kind-of (tag-at w b % 8)) (word w (b + 3)) ≡ constant-of (kind-of m) (word w′ (b + 3))) (sym same-kind)
-      (ap {A = Rule} (λ r. r .set .constant) (a .rule)))
-      (p .whole .constant)
+      (ap {A = Rule} (λ r. r .set .constant) (a .rule))) (p .whole .constant)
       (subst (λ (m : ℕ). T (not (mixes (kind-of m))) → word w′ (b + 3) ≡ 0) (sym same-kind) (p′ .whole .constant))
 
   same-counts : word w (b + 7) ≡ word w′ (b + 7)
@@ -178,11 +165,7 @@ module _ (lim : Limits) (w w′ : List ℕ) (n S b : ℕ) (p : Inside lim w n S 
     own = eight (λ i. word w (b + i) ≡ word w′ (b + i))
         (let e : b + 0 ≡ b = omega arith in ap {A = ℕ} (word w) e ∙ ap {A = Rule} (λ r. r .head) (a .rule) ∙ sym (ap {A = ℕ} (word w′) e))
         (tag-one (tag-at w b) (tag-at w′ b) (p .whole .tag) (p′ .whole .tag) same-kind same-side (a .pending))
-        (unbias-one (word w (b + 2)) (word w′ (b + 2)) (ap {A = Rule} (λ r. r .bound) (a .rule)))
-        same-constant
-        (a .least)
-        (a .greatest)
-        (a .place)
+        (unbias-one (word w (b + 2)) (word w′ (b + 2)) (ap {A = Rule} (λ r. r .bound) (a .rule))) same-constant (a .least) (a .greatest) (a .place)
         same-counts;
     entries = λ i l. same-room i l ∙ ap {A = ℕ} (λ k. word w′ (k + i)) (sym same-start);
   }

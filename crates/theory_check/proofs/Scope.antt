@@ -17,15 +17,10 @@ module _ (w : List ℕ) (n S b : ℕ) (room : entry-at w n S b + 2 * merged-at w
 
   pub scope-entry : (j : ℕ) → 1 ≤ j → j ≤ merged-at w b → getD (scope (rule-at w n S b)) j 0 ≡ word w (entry-at w n S b + 2 * (j - 1) + 1) / 2
   scope-entry zero l h = let f : ⊥ = omega arith in absurd f
-  scope-entry (suc i) l h =
-      let e : i ≡ suc i - 1 = omega arith in
-      ap {A = List ℕ} (λ l. getD l i 0) atoms
-      ∙ places-in (merged-at w b) (stored-entry w (entry-at w n S b)) i (omega arith)
-      ∙ atom-half (word w (entry-at w n S b + 2 * i + 1))
+  scope-entry (suc i) l h = let e : i ≡ suc i - 1 = omega arith in ap {A = List ℕ} (λ l. getD l i 0) atoms
+      ∙ places-in (merged-at w b) (stored-entry w (entry-at w n S b)) i (omega arith) ∙ atom-half (word w (entry-at w n S b + 2 * i + 1))
       ∙ ap {A = ℕ} (λ k. word w (entry-at w n S b + 2 * k + 1) / 2) e
 
   pub scope-past : (j : ℕ) → merged-at w b < j → getD (scope (rule-at w n S b)) j 0 ≡ 0
   scope-past zero h = let f : ⊥ = omega arith in absurd f
-  scope-past (suc i) h =
-      ap {A = List ℕ} (λ l. getD l i 0) atoms
-      ∙ places-past (merged-at w b) (stored-entry w (entry-at w n S b)) i (omega arith)
+  scope-past (suc i) h = ap {A = List ℕ} (λ l. getD l i 0) atoms ∙ places-past (merged-at w b) (stored-entry w (entry-at w n S b)) i (omega arith)

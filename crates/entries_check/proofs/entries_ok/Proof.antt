@@ -36,9 +36,6 @@ told c = granted (tells (c .before)) (c .if1 .left)
 below : (c : tie.Else1 Inv-loop μ-loop) → let s = start (c .before) .args in atom-at (s .area .now) (s .at) (at-loop (c .before) .loop .i) < 4097
 below c = omega (arith, told c .atom-high, atom-half (word (start (c .before) .args .area .now) (start (c .before) .args .at + 2 * at-loop (c .before) .loop .i + 1)))
 
-loop-holds : tie.Need-loop-holds Inv-loop μ-loop
-loop-holds c = (omega arith, search none-passed)
-
 returns : tie.Need-returns Inv-loop μ-loop
 returns c = entry-broken _ _ _ _ _ _ _ _ (at-loop (c .before) .loop .inv .1) (omega arith) (denied (tells (c .before)) (c .if1 .taken))
 
@@ -58,15 +55,13 @@ returns-3 c = product-past _ _ _ _ _ _ _ _ (at-loop (c .before .before .before .
 loop-again : tie.Need-loop-again Inv-loop μ-loop
 loop-again c = (omega arith, search (one-passed, below (c .before .before .before .before), told (c .before .before .before .before), grew (c .before), arith))
 
-returns-4 : tie.Need-returns-4 Inv-loop μ-loop
-returns-4 c = all-passed _ _ _ _ _ _ _ _ (c .before .loop .inv .1) (omega arith)
-
 pub entries-ok-spec : {M : Type 1} → statement M
 entries-ok-spec =
     tie.close
     (tie.spec
-    Inv-loop μ-loop (λ c. search needs) (λ c κs. search needs) (λ c κs. search needs) (λ c κs. search needs) loop-holds (λ c. search needs)
+    Inv-loop μ-loop (λ c. search needs) (λ c κs. search needs) (λ c κs. search needs) (λ c κs. search needs) (λ c. (omega arith, search none-passed))
     (λ c. search needs) (λ c. search needs) (λ c. search needs) (λ c. search needs) (λ c. search needs) (λ c. search needs) (λ c. search needs)
-    (λ c. search needs) (λ c κs. search needs) (λ c. search needs) returns (λ c. omega (arith, below c)) (λ c. omega (arith, below (c .before))) (λ c. search needs) returns-2
-    (λ c. omega (arith, below (c .before .before))) (λ c. omega (arith, below (c .before .before))) grown-requires (λ c. simp length-set (omega arith)) returns-3 (λ c. search needs) (λ c. search needs) loop-again (λ c. search needs)
-    returns-4)
+    (λ c. search needs) (λ c. search needs) (λ c κs. search needs) (λ c. search needs) returns (λ c. omega (arith, below c))
+    (λ c. omega (arith, below (c .before))) (λ c. search needs) returns-2 (λ c. omega (arith, below (c .before .before)))
+    (λ c. omega (arith, below (c .before .before))) grown-requires (λ c. simp length-set (omega arith)) returns-3 (λ c. search needs)
+    (λ c. search needs) loop-again (λ c. search needs) (λ c. all-passed _ _ _ _ _ _ _ _ (c .before .loop .inv .1) (omega arith)))

@@ -16,9 +16,6 @@ Inv-loop area from to i₀ i = (from ≤ i) × ((j : ℕ) → from ≤ j → j <
 abbrev μ-loop : tie.MeasureT-loop
 μ-loop area from to i₀ i = to - i
 
-loop-holds : tie.Need-loop-holds Inv-loop μ-loop
-loop-holds c = (omega arith, λ j a b. absurd (omega arith))
-
 returns : tie.Need-returns Inv-loop μ-loop
 returns c = told-no (λ h. c .if1 .taken (h _ (c .before .before .before .loop .inv .0) (omega arith)))
 
@@ -27,15 +24,12 @@ loop-again c = (
   omega arith,
   λ j a b. ⊎-elim
       (λ (e : j ≡ c .before .before .before .loop .i). ap {A = ℕ} (word (c .before .before .before .before .args .area .now)) e ∙ c .if1 .left)
-      (λ (m : j < c .before .before .before .loop .i). c .before .before .before .loop .inv .1 j a m)
-      (eq-or-lt-of-le (omega arith)),
+      (λ (m : j < c .before .before .before .loop .i). c .before .before .before .loop .inv .1 j a m) (eq-or-lt-of-le (omega arith)),
 )
-
-returns-2 : tie.Need-returns-2 Inv-loop μ-loop
-returns-2 c = told-yes (λ j a b. c .before .loop .inv .1 j a (omega arith))
 
 pub blank-spec : {M : Type 1} → statement M
 blank-spec =
     tie.close
     (tie.spec
-    Inv-loop μ-loop loop-holds (λ c. search needs) (λ c. search needs) returns (λ c. search needs) (λ c. search needs) loop-again returns-2)
+    Inv-loop μ-loop (λ c. (omega arith, λ j a b. absurd (omega arith))) (λ c. search needs) (λ c. search needs) returns (λ c. search needs)
+    (λ c. search needs) loop-again (λ c. told-yes (λ j a b. c .before .loop .inv .1 j a (omega arith))))

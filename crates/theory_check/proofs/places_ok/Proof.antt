@@ -1,5 +1,5 @@
 -- The sentences passed stand at their places, and `before` is how many entries they were written with.
-use mathlib.Core.Path.{_≡_, sym, ap, _∙_}
+use mathlib.Core.Path.{_≡_, sym}
 use Prim.Native.Nat.{ℕ, _≤_, _<_, _-_, _*_}
 use native.Mathlib.Omega.{arith}
 use borrow.Author.Needs.{needs}
@@ -18,11 +18,8 @@ Inv-loop area lim n count before₀ s₀ before s =
 abbrev μ-loop : tie.MeasureT-loop
 μ-loop area lim n count before₀ s₀ before s = count - s
 
-all : (c : tie.After-loop Inv-loop μ-loop) → entries-before (c .before .before .before .args .area .now) (c .before .before .before .args .n) (c .before .loop .s) ≡ entries-before (c .before .before .before .args .area .now) (c .before .before .before .args .n) (c .before .before .before .args .count)
-all c = let e : c .before .loop .s ≡ c .before .before .before .args .count = omega arith in ap {A = ℕ} (entries-before (c .before .before .before .args .area .now) (c .before .before .before .args .n)) e
-
-loop-holds : tie.Need-loop-holds Inv-loop μ-loop
-loop-holds c = (omega arith, sym (none-before _ _), omega arith, below-none _)
+all : (c : tie.After-loop Inv-loop μ-loop) → let s = c .before .before .before .args in entries-before (s .area .now) (s .n) (c .before .loop .s) ≡ entries-before (s .area .now) (s .n) (s .count)
+all c = let e : c .before .loop .s ≡ c .before .before .before .args .count = omega arith in rw e
 
 returns : tie.Need-returns Inv-loop μ-loop
 returns c = told-no (λ h. omega (arith, h .each (c .before .before .before .loop .s) (omega arith) .place))
@@ -34,30 +31,19 @@ returns-3 : tie.Need-returns-3 Inv-loop μ-loop
 returns-3 c = told-no (λ h. omega (arith, h .each (c .before .before .before .before .before .before .before .before .loop .s) (omega arith) .merged))
 
 loop-again : tie.Need-loop-again Inv-loop μ-loop
-loop-again c = (
-  omega arith,
-  omega (arith, one-more (c .before .before .before .before .before .before .before .before .before .before .args .area .now) (c .before .before .before .before .before .before .before .before .before .before .args .n) (c .before .before .before .before .before .before .before .before .loop .s)),
-  omega arith,
-  below-more _ _ (c .before .before .before .before .before .before .before .before .loop .inv .3) (record { place = omega arith; few = omega arith; merged = omega arith }),
-)
-
-returns-4 : tie.Need-returns-4 Inv-loop μ-loop
-returns-4 c = told-no (λ h. omega (arith, h .entries, all (c .before .before)))
-
-returns-5 : tie.Need-returns-5 Inv-loop μ-loop
-returns-5 c = told-no (λ h. omega (arith, h .room, all (c .before .before .before)))
+loop-again c = let s = c .before .before .before .before .before .before .before .before .before .before .args in let l = c .before .before .before .before .before .before .before .before .loop in
+    (omega arith, omega (arith, one-more (s .area .now) (s .n) (l .s)), omega arith, below-more _ _ (l .inv .3) (omega arith))
 
 returns-6 : tie.Need-returns-6 Inv-loop μ-loop
-returns-6 c = told-yes (record {
-  each = λ k l. c .before .before .before .before .loop .inv .3 k (omega arith);
-  entries = omega (arith, all (c .before .before .before));
-  room = omega (arith, all (c .before .before .before));
-})
+returns-6 c = let a = all (c .before .before .before) in
+    told-yes (record { each = λ k l. c .before .before .before .before .loop .inv .3 k (omega arith); entries = omega arith; room = omega arith })
 
 pub places-ok-spec : {M : Type 1} → statement M
 places-ok-spec =
     tie.close
     (tie.spec
-    Inv-loop μ-loop loop-holds (λ c. search needs) (λ c. search needs) (λ c. search needs) (λ c κs. search needs) returns (λ c κs. search needs)
-    returns-2 (λ c κs. search needs) returns-3 (λ c. search needs) (λ c. search needs) (λ c. search needs) loop-again returns-4 (λ c. search needs)
-    (λ c. search needs) (λ c. search needs) (λ c. search needs) (λ c. search needs) returns-5 returns-6)
+    Inv-loop μ-loop (λ c. (omega arith, sym (none-before _ _), omega arith, below-none _)) (λ c. search needs) (λ c. search needs) (λ c. search needs)
+    (λ c κs. search needs) returns (λ c κs. search needs) returns-2 (λ c κs. search needs) returns-3 (λ c. search needs) (λ c. search needs)
+    (λ c. search needs) loop-again (λ c. told-no (λ h. omega (arith, h .entries, all (c .before .before)))) (λ c. search needs) (λ c. search needs)
+    (λ c. search needs) (λ c. search needs) (λ c. search needs) (λ c. told-no (λ h. omega (arith, h .room, all (c .before .before .before))))
+    returns-6)

@@ -14,16 +14,7 @@ returns c = record {
 }
 
 entries-by-kind-requires : tie.Need-entries-by-kind-requires
-entries-by-kind-requires c κs = record {
-  atoms = omega arith;
-  own = omega arith;
-  kind = granted (c .before .before .before .record-ok .ensures) (c .before .before .if1 .left) .kind;
-  few = omega arith;
-  merged = omega arith;
-  room = omega arith;
-  stamps = c .before .before .before .before .before .before .pre .stamps;
-  stamps-high = omega arith;
-}
+entries-by-kind-requires c κs = let g = granted (c .before .before .before .record-ok .ensures) (c .before .before .if1 .left) in search arith
 
 returns-2 : tie.Need-returns-2
 returns-2 c = record {
