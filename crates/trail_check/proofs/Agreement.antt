@@ -16,9 +16,7 @@ use Rattle.trail_check.proofs.Values.{Found, here, nowhere, found}
 module _ (w : List ℕ) (n len : ℕ) (places : (i : ℕ) → i < len → PlaceOk w n i) where
   -- two places of one atom would both be where its value word points
   places-differ : (i j : ℕ) → i < len → j < len → literal-at w n i / 2 ≡ literal-at w n j / 2 → i ≡ j
-  places-differ i j l m e =
-      let p = places i l .value in
-      let q = places j m .value in omega (arith, p, q, ap {A = ℕ} (value-at w n) e)
+  places-differ i j l m e = let p = places i l .value in let q = places j m .value in omega (arith, p, q, ap {A = ℕ} (value-at w n) e)
 
   once-by-places : AtomsOnce n (rows-from w n len)
   once-by-places = atoms-once w n len (λ i l. places i l .low) (λ i l. places i l .high) places-differ
@@ -28,8 +26,7 @@ module _ (w : List ℕ) (n len : ℕ) (places : (i : ℕ) → i < len → PlaceO
     where
       go : Found w n len a → value-at w n a ≡ value-word (rows-from w n len) a
       go (here i l e v) = ap {A = ℕ} (value-at w n) (sym e) ∙ places i l .value ∙ sym v
-      go (nowhere off v) =
-          ⊎-elim
+      go (nowhere off v) = ⊎-elim
           (λ (p : value-at w n a ≤ 0). omega arith)
           (λ (p : 0 < value-at w n a). let q = values a low high .same p in absurd (off ((value-at w n a - 1) / 2) (values a low high .within p) (omega arith)))
           (cases 0 (value-at w n a))
@@ -37,14 +34,8 @@ module _ (w : List ℕ) (n len : ℕ) (places : (i : ℕ) → i < len → PlaceO
 pub trail-by-places : (w : List ℕ) (n len level : ℕ) → ((i : ℕ) → 1 ≤ i → i < n → word w i ≡ 0)
     → ((a : ℕ) → 1 ≤ a → a ≤ n → ValueOk w n len a) → ((i : ℕ) → i < len → PlaceOk w n i) → Rising level (rows-from w n len)
     → ((i : ℕ) → len ≤ i → i < n → RestOk w n i) → TrailOk w n len level
-trail-by-places w n len level front values places rising rest = record {
-  atoms = once-by-places w n len places;
-  values = values-by-places w n len places values;
-  rising = rising;
-  front = front;
-  literals = λ i l m. rest i l m .literal;
-  marks = λ i l m. rest i l m .mark;
-}
+trail-by-places w n len level front values places rising rest = let once = once-by-places w n len places in let right = values-by-places w n len places values in
+    record { atoms = once; values = right; rising = rising; front = front; literals = λ i l m. rest i l m .literal; marks = λ i l m. rest i l m .mark }
 
 module _ (w : List ℕ) (n len level : ℕ) (ok : TrailOk w n len level) where
   pub place-of-ok : (i : ℕ) → i < len → PlaceOk w n i
@@ -64,13 +55,10 @@ module _ (w : List ℕ) (n len level : ℕ) (ok : TrailOk w n len level) where
   value-of-ok a low high = go (found w n a low len)
     where
       go : Found w n len a → ValueOk w n len a
-      go (here j m e v) =
-          let x : value-at w n a ≡ 1 + 2 * j + literal-at w n j % 2 = ok .values a low high ∙ v in
+      go (here j m e v) = let x : value-at w n a ≡ 1 + 2 * j + literal-at w n j % 2 = ok .values a low high ∙ v in
           let q : (value-at w n a - 1) / 2 ≡ j = omega arith in
           record { within = λ _. omega arith; same = λ _. ap {A = ℕ} (literal-at w n) q ∙ omega arith }
-      go (nowhere off v) =
-          let x : value-at w n a ≡ 0 = ok .values a low high ∙ v in
-          record { within = λ p. absurd (omega arith); same = λ p. absurd (omega arith) }
+      go (nowhere off v) = let x : value-at w n a ≡ 0 = ok .values a low high ∙ v in omega arith
 
   pub rest-of-ok : (i : ℕ) → len ≤ i → i < n → RestOk w n i
   rest-of-ok i l m = record { literal = ok .literals i l m; mark = ok .marks i l m }

@@ -34,11 +34,9 @@ module _ (P : Row → Type 0) (w : List ℕ) (n : ℕ) where
   pub row-of-each : (k i : ℕ) → i < k → Each P (rows-from w n k) → P (row-at w n i)
   unfolding rows-from
   row-of-each zero i l h = let b : ⊥ = omega arith in absurd b
-  row-of-each (suc k) i l h =
-      ⊎-elim {A = i ≡ k} {B = i < k}
+  row-of-each (suc k) i l h = ⊎-elim {A = i ≡ k} {B = i < k}
       (λ (e : i ≡ k). subst (λ j. P (row-at w n j)) (sym e) (h .0))
-      (λ (q : i < k). row-of-each k i q (h .1))
-      (eq-or-lt-of-le (omega arith))
+      (λ (q : i < k). row-of-each k i q (h .1)) (eq-or-lt-of-le (omega arith))
 
 -- ---- atoms
 
@@ -48,22 +46,18 @@ atom-size (negsuc a) = refl
 
 -- of any word
 pub atom-of : (x : ℕ) → atom (literal-of x) ≡ x / 2
-atom-of x =
-    ⊎-elim
+atom-of x = ⊎-elim
     (λ (h : 2 ≤ x). atom-size (literal-of x) ∙ literal-atom x h)
-    (λ (h : x < 2). let e : 0 ≡ x / 2 = omega arith in ap atom (literal-none x h) ∙ e)
-    (cases x 2)
+    (λ (h : x < 2). let e : 0 ≡ x / 2 = omega arith in ap atom (literal-none x h) ∙ e) (cases x 2)
 
 module _ (w : List ℕ) (n : ℕ) where
   -- the rows up to place i
   up-to-place : (k i : ℕ) → i < k → AtomsOnce n (rows-from w n k) → AtomsOnce n (rows-from w n (suc i))
   unfolding rows-from
   up-to-place zero i l h = let b : ⊥ = omega arith in absurd b
-  up-to-place (suc k) i l h =
-      ⊎-elim {A = i ≡ k} {B = i < k}
+  up-to-place (suc k) i l h = ⊎-elim {A = i ≡ k} {B = i < k}
       (λ (e : i ≡ k). subst (λ j. AtomsOnce n (rows-from w n (suc j))) (sym e) h)
-      (λ (q : i < k). up-to-place k i q (h .1))
-      (eq-or-lt-of-le (omega arith))
+      (λ (q : i < k). up-to-place k i q (h .1)) (eq-or-lt-of-le (omega arith))
 
   pub atom-low : (k i : ℕ) → i < k → AtomsOnce n (rows-from w n k) → 1 ≤ literal-at w n i / 2
   unfolding rows-from
@@ -75,20 +69,16 @@ module _ (w : List ℕ) (n : ℕ) where
 
   earlier-other : (k i j : ℕ) → i < j → j < k → AtomsOnce n (rows-from w n k) → ¬ (literal-at w n i / 2 ≡ literal-at w n j / 2)
   unfolding rows-from
-  earlier-other k i j l m h e =
-      row-of-each (λ x. ¬ (atom (x .literal) ≡ atom (row-at w n j .literal))) w n j i l (up-to-place k j m h .0 .2)
+  earlier-other k i j l m h e = row-of-each (λ x. ¬ (atom (x .literal) ≡ atom (row-at w n j .literal))) w n j i l (up-to-place k j m h .0 .2)
       (atom-of (literal-at w n i) ∙ e ∙ sym (atom-of (literal-at w n j)))
 
   -- an atom stands at one place
   pub place-unique : (k i j : ℕ) → i < k → j < k → AtomsOnce n (rows-from w n k) → literal-at w n i / 2 ≡ literal-at w n j / 2 → i ≡ j
-  place-unique k i j l m h e =
-      ⊎-elim
+  place-unique k i j l m h e = ⊎-elim
       (λ (q : j ≤ i). ⊎-elim
       (λ (p : i ≤ j). omega arith)
-      (λ (p : j < i). absurd (earlier-other k j i p l h (sym e)))
-      (cases j i))
-      (λ (q : i < j). absurd (earlier-other k i j q m h e))
-      (cases i j)
+      (λ (p : j < i). absurd (earlier-other k j i p l h (sym e))) (cases j i))
+      (λ (q : i < j). absurd (earlier-other k i j q m h e)) (cases i j)
 
   -- places whose atoms differ have rows whose atoms differ
   pub atoms-once : (k : ℕ) → ((i : ℕ) → i < k → 1 ≤ literal-at w n i / 2) → ((i : ℕ) → i < k → literal-at w n i / 2 ≤ n)
@@ -105,6 +95,5 @@ module _ (w : List ℕ) (n : ℕ) where
   )
     where
       other : (i : ℕ) → i < k → ¬ (atom (row-at w n i .literal) ≡ atom (row-at w n k .literal))
-      other i l e =
-          let q : i ≡ k = once i k (omega arith) (omega arith) (sym (atom-of (literal-at w n i)) ∙ e ∙ atom-of (literal-at w n k)) in
+      other i l e = let q : i ≡ k = once i k (omega arith) (omega arith) (sym (atom-of (literal-at w n i)) ∙ e ∙ atom-of (literal-at w n k)) in
           let b : ⊥ = omega arith in absurd b

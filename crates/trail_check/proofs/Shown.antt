@@ -25,11 +25,9 @@ abbrev shown : ℕ → Standing
 shown v = cond (eqb v 0) free (fixed (eqb (v % 2) 1))
 
 shown-fixed : (l : ℤ) (m : ℕ) → fixed (truth l true) ≡ shown (1 + 2 * m + sign l)
-shown-fixed (pos a) m =
-    let e : (1 + 2 * m + 0) % 2 ≡ 1 = omega arith in
+shown-fixed (pos a) m = let e : (1 + 2 * m + 0) % 2 ≡ 1 = omega arith in
     rw (ne-eqb (1 + 2 * m + 0) 0 (λ q. omega arith), eq-eqb ((1 + 2 * m + 0) % 2) 1 e)
-shown-fixed (negsuc a) m =
-    let e : (1 + 2 * m + 1) % 2 ≡ 0 = omega arith in
+shown-fixed (negsuc a) m = let e : (1 + 2 * m + 1) % 2 ≡ 0 = omega arith in
     rw (ne-eqb (1 + 2 * m + 1) 0 (λ q. omega arith), ne-eqb ((1 + 2 * m + 1) % 2) 1 (λ q. omega arith))
 
 -- of any rows

@@ -17,11 +17,9 @@ use Rattle.area.specs.Layout.{literal-at, row-at, rows-from, sign, value-word}
 use Rattle.trail_check.proofs.Rows.{rows-length, atom-of}
 
 pub sign-of : (x : ℕ) → 2 ≤ x → sign (literal-of x) ≡ x % 2
-sign-of x h =
-    ⊎-elim
+sign-of x h = ⊎-elim
     (λ (p : x % 2 ≤ 0). let e : x % 2 ≡ 0 = omega arith in ap sign (literal-even x e) ∙ sym e)
-    (λ (p : 0 < x % 2). let e : x % 2 ≡ 1 = omega arith in ap sign (literal-odd x h e) ∙ sym e)
-    (cases 0 (x % 2))
+    (λ (p : 0 < x % 2). let e : x % 2 ≡ 1 = omega arith in ap sign (literal-odd x h e) ∙ sym e) (cases 0 (x % 2))
 
 pub value-word-same : (r : Row) (rs : List Row) (a : ℕ) → atom (r .literal) ≡ a → value-word (r ∷ rs) a ≡ 1 + 2 * length rs + sign (r .literal)
 unfolding value-word
@@ -46,16 +44,12 @@ module _ (w : List ℕ) (n a : ℕ) (low : 1 ≤ a) where
       at-k = atom-of (literal-at w n k)
 
       go : Dec (atom (row-at w n k .literal) ≡ a) → Found w n k a → Found w n (suc k) a
-      go (yes e) f =
-          let q : literal-at w n k / 2 ≡ a = sym at-k ∙ e in
-          here k (omega arith) q
+      go (yes e) f = let q : literal-at w n k / 2 ≡ a = sym at-k ∙ e in here k (omega arith) q
           (value-word-same (row-at w n k) (rows-from w n k) a e ∙ omega (arith, rows-length w n k, sign-of (literal-at w n k) (omega arith)))
       go (no d) (here i l e v) = here i (omega arith) e (value-word-other (row-at w n k) (rows-from w n k) a d ∙ v)
       go (no d) (nowhere f v) = nowhere off (value-word-other (row-at w n k) (rows-from w n k) a d ∙ v)
         where
           off : (i : ℕ) → i < suc k → ¬ (literal-at w n i / 2 ≡ a)
-          off i l e =
-              ⊎-elim {A = i ≡ k} {B = i < k}
+          off i l e = ⊎-elim {A = i ≡ k} {B = i < k}
               (λ (q : i ≡ k). d (at-k ∙ ap (λ j. literal-at w n j / 2) (sym q) ∙ e))
-              (λ (q : i < k). f i q e)
-              (eq-or-lt-of-le (omega arith))
+              (λ (q : i < k). f i q e) (eq-or-lt-of-le (omega arith))

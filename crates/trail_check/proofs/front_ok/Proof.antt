@@ -15,20 +15,11 @@ Inv-loop area n i₀ i = (1 ≤ i) × ((k : ℕ) → k < i → 1 ≤ k → word 
 abbrev μ-loop : tie.MeasureT-loop
 μ-loop area n i₀ i = n - i
 
-loop-holds : tie.Need-loop-holds Inv-loop μ-loop
-loop-holds c = (omega arith, λ k l m. absurd (omega arith))
-
-returns : tie.Need-returns Inv-loop μ-loop
-returns c = told-no (λ h. c .if1 .taken (h _ (omega arith) (omega arith)))
-
-loop-again : tie.Need-loop-again Inv-loop μ-loop
-loop-again c = (omega arith, below-more _ _ (c .before .before .before .loop .inv .1) (λ _. c .if1 .left))
-
-returns-2 : tie.Need-returns-2 Inv-loop μ-loop
-returns-2 c = told-yes (λ k m l. c .before .loop .inv .1 k (omega arith) m)
-
 pub front-ok-spec : {M : Type 1} → statement M
 front-ok-spec =
     tie.close
     (tie.spec
-    Inv-loop μ-loop loop-holds (λ c. search needs) (λ c. search needs) returns (λ c. search needs) (λ c. search needs) loop-again returns-2)
+    Inv-loop μ-loop (λ c. (omega arith, λ k l m. absurd (omega arith))) (λ c. search needs) (λ c. search needs)
+    (λ c. told-no (λ h. c .if1 .taken (h _ (omega arith) (omega arith)))) (λ c. search needs) (λ c. search needs)
+    (λ c. (omega arith, below-more _ _ (c .before .before .before .loop .inv .1) (λ _. c .if1 .left)))
+    (λ c. told-yes (λ k m l. c .before .loop .inv .1 k (omega arith) m)))

@@ -17,9 +17,6 @@ Inv-loop area n len level high₀ left₀ high left =
 abbrev μ-loop : tie.MeasureT-loop
 μ-loop area n len level high₀ left₀ high left = left
 
-loop-holds : tie.Need-loop-holds Inv-loop μ-loop
-loop-holds c = (omega arith, (λ h. h), λ h. h)
-
 returns : tie.Need-returns Inv-loop μ-loop
 returns c = told-no (λ h. let q = rising-row _ _ _ _ (omega arith) (c .before .before .before .loop .inv .2 h) .0 in omega arith)
 
@@ -30,11 +27,9 @@ loop-again c = (
   λ h. rw (c .before .row-level .ensures) (rising-row _ _ _ _ (omega arith) (c .before .before .before .loop .inv .2 h) .1),
 )
 
-returns-2 : tie.Need-returns-2 Inv-loop μ-loop
-returns-2 c = told-yes (c .before .loop .inv .1 (rising-none _ _ _ _ (omega arith)))
-
 pub levels-ok-spec : {M : Type 1} → statement M
 levels-ok-spec =
     tie.close
     (tie.spec
-    Inv-loop μ-loop loop-holds (λ c. search needs) (λ c κs. search needs) returns (λ c. search needs) loop-again returns-2)
+    Inv-loop μ-loop (λ c. (omega arith, (λ h. h), λ h. h)) (λ c. search needs) (λ c κs. search needs) returns (λ c. search needs) loop-again
+    (λ c. told-yes (c .before .loop .inv .1 (rising-none _ _ _ _ (omega arith)))))

@@ -14,20 +14,13 @@ Inv-loop area n len i₀ i = (i ≤ len) × ((k : ℕ) → k < i → PlaceOk are
 abbrev μ-loop : tie.MeasureT-loop
 μ-loop area n len i₀ i = len - i
 
-loop-holds : tie.Need-loop-holds Inv-loop μ-loop
-loop-holds c = (omega arith, below-none _)
-
-returns : tie.Need-returns Inv-loop μ-loop
-returns c = told-no (λ h. denied (c .before .place-ok .ensures) (c .if1 .taken) (h _ (omega arith)))
-
 loop-again : tie.Need-loop-again Inv-loop μ-loop
 loop-again c = (omega arith, below-more _ _ (c .before .before .before .loop .inv .1) (granted (c .before .place-ok .ensures) (c .if1 .left)))
-
-returns-2 : tie.Need-returns-2 Inv-loop μ-loop
-returns-2 c = told-yes (λ k l. c .before .loop .inv .1 k (omega arith))
 
 pub places-ok-spec : {M : Type 1} → statement M
 places-ok-spec =
     tie.close
     (tie.spec
-    Inv-loop μ-loop loop-holds (λ c κs. search needs) returns (λ c. search needs) (λ c. search needs) loop-again returns-2)
+    Inv-loop μ-loop (λ c. (omega arith, below-none _)) (λ c κs. search needs)
+    (λ c. told-no (λ h. denied (c .before .place-ok .ensures) (c .if1 .taken) (h _ (omega arith)))) (λ c. search needs) (λ c. search needs) loop-again
+    (λ c. told-yes (λ k l. c .before .loop .inv .1 k (omega arith))))

@@ -14,9 +14,6 @@ Inv-loop area n len i₀ i = (len ≤ i) × (i ≤ n) × ((k : ℕ) → k < i �
 abbrev μ-loop : tie.MeasureT-loop
 μ-loop area n len i₀ i = n - i
 
-loop-holds : tie.Need-loop-holds Inv-loop μ-loop
-loop-holds c = (omega arith, omega arith, λ k l m. absurd (omega arith))
-
 returns : tie.Need-returns Inv-loop μ-loop
 returns c = told-no (λ h. let q = h (c .before .before .before .loop .i) (omega arith) (omega arith) in omega arith)
 
@@ -26,12 +23,9 @@ returns-2 c = told-no (λ h. let q = h (c .before .before .before .before .befor
 loop-again : tie.Need-loop-again Inv-loop μ-loop
 loop-again c = (omega arith, omega arith, below-more _ _ (c .before .before .before .before .before .loop .inv .2) (λ _. record { literal = omega arith; mark = omega arith }))
 
-returns-3 : tie.Need-returns-3 Inv-loop μ-loop
-returns-3 c = told-yes (λ k m l. c .before .loop .inv .2 k (omega arith) m)
-
 pub rest-ok-spec : {M : Type 1} → statement M
 rest-ok-spec =
     tie.close
     (tie.spec
-    Inv-loop μ-loop loop-holds (λ c κs. search needs) returns (λ c κs. search needs) returns-2 (λ c. search needs) (λ c. search needs) loop-again
-    returns-3)
+    Inv-loop μ-loop (λ c. (omega arith, omega arith, λ k l m. absurd (omega arith))) (λ c κs. search needs) returns (λ c κs. search needs) returns-2
+    (λ c. search needs) (λ c. search needs) loop-again (λ c. told-yes (λ k m l. c .before .loop .inv .2 k (omega arith) m)))

@@ -5,12 +5,6 @@ use Rattle.decide.proofs.Tells.{told-yes, told-no}
 use Rattle.trail_check.proofs.value_ok.Statement.{statement}
 use Rattle.trail_check.proofs.value_ok.Tie as tie
 
-returns : tie.Need-returns
-returns c = told-yes (omega arith)
-
-returns-2 : tie.Need-returns-2
-returns-2 c = told-no (λ h. omega (arith, h .within (omega arith)))
-
 returns-3 : tie.Need-returns-3
 returns-3 c = told-no (λ h. omega (arith, h .same (omega arith), rw (c .before .before .before .before .value-at .ensures) at (c .before .literal-at .ensures)))
 
@@ -21,5 +15,5 @@ pub value-ok-spec : {M : Type 1} → statement M
 value-ok-spec =
     tie.close
     (tie.spec
-    (λ c κs. search needs) returns (λ c. search needs) returns-2 (λ c κs. search needs) (λ c. search needs) (λ c. search needs) (λ c. search needs)
-    returns-3 returns-4)
+    (λ c κs. search needs) (λ c. told-yes (omega arith)) (λ c. search needs) (λ c. told-no (λ h. omega (arith, h .within (omega arith))))
+    (λ c κs. search needs) (λ c. search needs) (λ c. search needs) (λ c. search needs) returns-3 returns-4)

@@ -14,20 +14,13 @@ Inv-loop area n len a₀ a = (1 ≤ a) × (a ≤ suc n) × ((k : ℕ) → k < a 
 abbrev μ-loop : tie.MeasureT-loop
 μ-loop area n len a₀ a = suc n - a
 
-loop-holds : tie.Need-loop-holds Inv-loop μ-loop
-loop-holds c = (omega arith, omega arith, λ k l m. absurd (omega arith))
-
-returns : tie.Need-returns Inv-loop μ-loop
-returns c = told-no (λ h. denied (c .before .value-ok .ensures) (c .if1 .taken) (h _ (omega arith) (omega arith)))
-
 loop-again : tie.Need-loop-again Inv-loop μ-loop
 loop-again c = (omega arith, omega arith, below-more _ _ (c .before .before .before .loop .inv .2) (λ _. granted (c .before .value-ok .ensures) (c .if1 .left)))
-
-returns-2 : tie.Need-returns-2 Inv-loop μ-loop
-returns-2 c = told-yes (λ k m l. c .before .loop .inv .2 k (omega arith) m)
 
 pub values-ok-spec : {M : Type 1} → statement M
 values-ok-spec =
     tie.close
     (tie.spec
-    Inv-loop μ-loop loop-holds (λ c κs. search needs) returns (λ c. search needs) (λ c. search needs) loop-again returns-2)
+    Inv-loop μ-loop (λ c. (omega arith, omega arith, λ k l m. absurd (omega arith))) (λ c κs. search needs)
+    (λ c. told-no (λ h. denied (c .before .value-ok .ensures) (c .if1 .taken) (h _ (omega arith) (omega arith)))) (λ c. search needs)
+    (λ c. search needs) loop-again (λ c. told-yes (λ k m l. c .before .loop .inv .2 k (omega arith) m)))

@@ -5,12 +5,6 @@ use Rattle.word_check.proofs.Weights.{itself-even, odd-other, some-weig
 use Rattle.word_check.proofs.added.Statement.{statement}
 use Rattle.word_check.proofs.added.Tie as tie
 
-returns : tie.Need-returns
-returns c = told-no (λ h. odd-other (c .before .args .literal) (c .before .pre .1) (c .if1 .taken) (h .itself))
-
-returns-2 : tie.Need-returns-2
-returns-2 c = told-no (λ h. h .something (no-weight (c .before .before .args .weight) (c .if2 .taken)))
-
 returns-3 : tie.Need-returns-3
 returns-3 c = told-same (c .near .ensures)
     (λ p. record {
@@ -23,4 +17,6 @@ returns-3 c = told-same (c .near .ensures)
 pub added-spec : {M : Type 1} → statement M
 added-spec = tie.close
     (tie.spec
-    returns returns-2 (λ c. search needs) (λ c κs. search needs) returns-3)
+    (λ c. told-no (λ h. odd-other (c .before .args .literal) (c .before .pre .1) (c .if1 .taken) (h .itself)))
+    (λ c. told-no (λ h. h .something (no-weight (c .before .before .args .weight) (c .if2 .taken)))) (λ c. search needs) (λ c κs. search needs)
+    returns-3)

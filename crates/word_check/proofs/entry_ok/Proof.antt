@@ -7,18 +7,6 @@ use Rattle.word_check.proofs.Weights.{atom-half}
 use Rattle.word_check.proofs.entry_ok.Statement.{statement}
 use Rattle.word_check.proofs.entry_ok.Tie as tie
 
-returns : tie.Need-returns
-returns c = told-no (λ h. omega (arith, h .atom-low, atom-half (c .before .args .literal)))
-
-returns-2 : tie.Need-returns-2
-returns-2 c = told-no (λ h. omega (arith, h .atom-high, atom-half (c .before .before .args .literal)))
-
-returns-3 : tie.Need-returns-3
-returns-3 c = told-no (λ h. h .other (atom-half (c .before .before .before .args .literal) ∙ c .if3 .taken))
-
-returns-4 : tie.Need-returns-4
-returns-4 c = told-no (λ h. denied (c .before .weight-ok .ensures) (c .if4 .taken) (h .weighs))
-
 returns-5 : tie.Need-returns-5
 returns-5 c = told-yes (record {
   atom-low = omega (arith, atom-half (c .before .before .before .before .before .args .literal));
@@ -31,4 +19,7 @@ pub entry-ok-spec : {M : Type 1} → statement M
 entry-ok-spec =
     tie.close
     (tie.spec
-    returns returns-2 returns-3 (λ c κs. search needs) returns-4 returns-5)
+    (λ c. told-no (λ h. omega (arith, h .atom-low, atom-half (c .before .args .literal))))
+    (λ c. told-no (λ h. omega (arith, h .atom-high, atom-half (c .before .before .args .literal))))
+    (λ c. told-no (λ h. h .other (atom-half (c .before .before .before .args .literal) ∙ c .if3 .taken))) (λ c κs. search needs)
+    (λ c. told-no (λ h. denied (c .before .weight-ok .ensures) (c .if4 .taken) (h .weighs))) returns-5)

@@ -6,9 +6,6 @@ use Rattle.word_check.proofs.Weights.{from-one, one-from, near-yes, not
 use Rattle.word_check.proofs.multiplied.Statement.{statement}
 use Rattle.word_check.proofs.multiplied.Tie as tie
 
-returns-2 : tie.Need-returns-2
-returns-2 c = told-no (λ h. not-high (c .before .before .args .weight) 1000000000000000000 (c .if2 .taken) (h .high))
-
 returns-3 : tie.Need-returns-3
 returns-3 c = told-yes (record {
   low = from-one (c .before .before .args .weight) (c .before .if1 .left);
@@ -18,4 +15,5 @@ returns-3 c = told-yes (record {
 pub multiplied-spec : {M : Type 1} → statement M
 multiplied-spec = tie.close
     (tie.spec
-    (λ c. told-no (λ h. omega (arith, one-from (c .before .args .weight) (h .low)))) (λ c. search needs) returns-2 returns-3)
+    (λ c. told-no (λ h. omega (arith, one-from (c .before .args .weight) (h .low)))) (λ c. search needs)
+    (λ c. told-no (λ h. not-high (c .before .before .args .weight) 1000000000000000000 (c .if2 .taken) (h .high))) returns-3)
