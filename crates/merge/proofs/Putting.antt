@@ -53,9 +53,19 @@ module _ {part table : List ℕ} {n kind x l : ℕ} (p : Puttable part table n k
   pub slot-few : getD table l 0 ≤ n
   slot-few = omega (arith, table-slot, slot-most (first-entries part n) (literal-of l), held-length)
 
-  -- the table's word for another literal, wherever l's is written
-  other-word : (m : ℤ) → (m ≡ literal-of l → ⊥) → literal-word m ≡ l → ⊥
-  other-word m d e = d (sym (literal-of-word m) ∙ ap literal-of e)
+  abbrev all : List Entry
+  all = put (kind-of kind) (first-entries part n) (entry-of x l)
+
+  -- a table that has l's slot, and its words for the other literals as they were
+  places-after : (next : List ℕ) → length next ≡ 8194 → getD next l 0 ≡ slot all (literal-of l) → ((i : ℕ) → (i ≡ l → ⊥) → getD next i 0 ≡ getD table i 0) → Places next all
+  places-after next size here other = record { size = size; each = at }
+    where
+      at : (m : ℤ) → atom m ≤ 4096 → getD next (literal-word m) 0 ≡ slot all m
+      at m h =
+          either (getD next (literal-word m) 0 ≡ slot all m) m (literal-of l)
+          (λ (e : m ≡ literal-of l). ap (λ z. getD next (literal-word z) 0) e ∙ ap (λ i. getD next i 0) literal-back ∙ here ∙ ap (slot all) (sym e))
+          (λ (d : m ≡ literal-of l → ⊥). other (literal-word m) (λ e. d (sym (literal-of-word m) ∙ ap literal-of e)) ∙ p .places .each m h
+          ∙ sym (slot-other (kind-of kind) (first-entries part n) (entry-of x l) m (λ e. d (sym e))))
 
   -- ---- a new literal
 
@@ -67,17 +77,12 @@ module _ {part table : List ℕ} {n kind x l : ℕ} (p : Puttable part table n k
     new-entries = ap (first-entries (set (set part (2 * n) x) (2 * n + 1) l)) (add-one n) ∙ entries-added part n x l (p .room)
         ∙ sym (put-new (kind-of kind) (first-entries part n) (entry-of x l) no-slot)
 
-    new-places : Places (set table l (n + 1)) (put (kind-of kind) (first-entries part n) (entry-of x l))
-    new-places = record { size = length-set table l (n + 1) ∙ p .places .size; each = at }
-      where
-        at : (m : ℤ) → atom m ≤ 4096 → getD (set table l (n + 1)) (literal-word m) 0 ≡ slot (put (kind-of kind) (first-entries part n) (entry-of x l)) m
-        at m h = either (getD (set table l (n + 1)) (literal-word m) 0 ≡ slot (put (kind-of kind) (first-entries part n) (entry-of x l)) m) m (literal-of l)
-            (λ (e : m ≡ literal-of l). ap (λ z. getD (set table l (n + 1)) (literal-word z) 0) e ∙ ap (λ i. getD (set table l (n + 1)) i 0) literal-back
-            ∙ getD-set-same table l (n + 1) 0 (let s = p .places .size in let q = p .high in omega arith) ∙ add-one n ∙ ap suc (sym held-length)
-            ∙ sym (slot-new (kind-of kind) (first-entries part n) (entry-of x l) no-slot)
-            ∙ ap (slot (put (kind-of kind) (first-entries part n) (entry-of x l))) (sym e)) (λ (d : m ≡ literal-of l → ⊥).
-            getD-set-other table l (literal-word m) (n + 1) 0 (other-word m d) ∙ p .places .each m h
-            ∙ sym (slot-other (kind-of kind) (first-entries part n) (entry-of x l) m (λ e. d (sym e))))
+    new-places : Places (set table l (n + 1)) all
+    new-places =
+        places-after (set table l (n + 1)) (length-set table l (n + 1) ∙ p .places .size)
+        (getD-set-same table l (n + 1) 0 (let s = p .places .size in let q = p .high in omega arith) ∙ add-one n ∙ ap suc (sym held-length)
+        ∙ sym (slot-new (kind-of kind) (first-entries part n) (entry-of x l) no-slot))
+        (λ i d. getD-set-other table l i (n + 1) 0 d)
 
     new-literals : Literals part n → Literals (set (set part (2 * n) x) (2 * n + 1) l) (n + 1)
     new-literals h i g = ⊎-elim {A = i ≡ n} {B = i < n}
@@ -111,15 +116,9 @@ module _ {part table : List ℕ} {n kind x l : ℕ} (p : Puttable part table n k
           ∙ ap (λ w. set (first-entries part n) i (record { weight = w; literal = literal-of (word part (2 * i + 1)) })) is
           ∙ ap (λ y. set (first-entries part n) i (join (kind-of kind) y (entry-of x l))) (sym there) ∙ sym (found .put-is)
 
-      old-places : Places table (put (kind-of kind) (first-entries part n) (entry-of x l))
-      old-places = record { size = p .places .size; each = at }
-        where
-          at : (m : ℤ) → atom m ≤ 4096 → getD table (literal-word m) 0 ≡ slot (put (kind-of kind) (first-entries part n) (entry-of x l)) m
-          at m h = either (getD table (literal-word m) 0 ≡ slot (put (kind-of kind) (first-entries part n) (entry-of x l)) m) m (literal-of l)
-              (λ (e : m ≡ literal-of l). ap (λ z. getD table (literal-word z) 0) e ∙ ap (λ i. getD table i 0) literal-back ∙ old
-              ∙ sym (slot-old (kind-of kind) (first-entries part n) (entry-of x l) i (sym table-slot ∙ old))
-              ∙ ap (slot (put (kind-of kind) (first-entries part n) (entry-of x l))) (sym e))
-              (λ (d : m ≡ literal-of l → ⊥). p .places .each m h ∙ sym (slot-other (kind-of kind) (first-entries part n) (entry-of x l) m (λ e. d (sym e))))
+      old-places : Places table all
+      old-places =
+          places-after table (p .places .size) (old ∙ sym (slot-old (kind-of kind) (first-entries part n) (entry-of x l) i (sym table-slot ∙ old))) (λ j d. refl)
 
       old-literals : Literals part n → Literals (set part (2 * i) z) n
       old-literals h j g = let w : word (set part (2 * i) z) (2 * j + 1) ≡ word part (2 * j + 1) = getD-set-other part (2 * i) (2 * j + 1) z 0 (λ q. omega arith) in rw w (h j g)

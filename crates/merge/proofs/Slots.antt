@@ -6,7 +6,6 @@ use Prim.Native.Nat.{ℕ, zero, suc, _≤_, _<_}
 use native.Mathlib.Omega.{arith}
 use lib.IntN.{ℤ}
 use lib.ListN.{length, getD, set}
-use lib.Dec.{T}
 use Rattle.meaning.specs.Meaning.{Entry, Kind, same}
 use Rattle.meaning.specs.Merge.{put}
 use Rattle.meaning.proofs.Members.{same→eq, eq→same, join}
@@ -27,23 +26,21 @@ put-new k (x ∷ xs) e h =
 -- an entry that is there keeps its place
 pub record Found (k : Kind) (xs : List Entry) (e d : Entry) (i : ℕ) : Type 0 where
   pub low : i < length xs
-  pub literal : getD xs i d .literal ≡ e .literal
   pub put-is : put k xs e ≡ set xs i (join k (getD xs i d) e)
 
 pub put-old : (k : Kind) (xs : List Entry) (e d : Entry) (i : ℕ) → slot xs (e .literal) ≡ suc i → Found k xs e d i
 unfolding put slot
 put-old k [] e d i h = absurd (omega arith)
 put-old k (x ∷ xs) e d i h =
-    let p = by (same (x .literal) (e .literal)) (same→eq (x .literal) (e .literal)) (slot xs (e .literal)) i (put-old k xs e d) refl h in
-    record { low = p .0; literal = p .1; put-is = p .2 }
+    let p = by (same (x .literal) (e .literal)) (slot xs (e .literal)) i (put-old k xs e d) refl h in record { low = p .0; put-is = p .1 }
   where
-    by : (b : Bool) → (T b → x .literal ≡ e .literal) → (s j : ℕ) → ((m : ℕ) → slot xs (e .literal) ≡ suc m → Found k xs e d m) → slot xs (e .literal) ≡ s → cond b 1 (after s) ≡ suc j
-        → (j < length (x ∷ xs)) × (getD (x ∷ xs) j d .literal ≡ e .literal) × (cond b (join k x e ∷ xs) (x ∷ put k xs e) ≡ set (x ∷ xs) j (join k (getD (x ∷ xs) j d) e))
-    by true eq s zero ih r q = (omega arith, eq tt, refl)
-    by true eq s (suc j) ih r q = absurd (omega arith)
-    by false eq zero j ih r q = absurd (omega arith)
-    by false eq (suc s) zero ih r q = absurd (omega arith)
-    by false eq (suc s) (suc j) ih r q = let o = ih j (omega arith) in (omega (arith, o .low), o .literal, ap (λ r. x ∷ r) (o .put-is))
+    by : (b : Bool) (s j : ℕ) → ((m : ℕ) → slot xs (e .literal) ≡ suc m → Found k xs e d m) → slot xs (e .literal) ≡ s → cond b 1 (after s) ≡ suc j
+        → (j < length (x ∷ xs)) × (cond b (join k x e ∷ xs) (x ∷ put k xs e) ≡ set (x ∷ xs) j (join k (getD (x ∷ xs) j d) e))
+    by true s zero ih r q = (omega arith, refl)
+    by true s (suc j) ih r q = absurd (omega arith)
+    by false zero j ih r q = absurd (omega arith)
+    by false (suc s) zero ih r q = absurd (omega arith)
+    by false (suc s) (suc j) ih r q = let o = ih j (omega arith) in (omega (arith, o .low), ap (λ r. x ∷ r) (o .put-is))
 
 -- ---- the slots after one entry more
 
