@@ -1,19 +1,18 @@
 -- No fold over a whole sentence wraps, whatever the values: each contribution is the weight or the empty value, so that a sum moves by no
 -- more than the sizes of all its weights together, and a product never passes the product of all its weights.
-use mathlib.Core.Path.{_≡_, refl, sym, subst}
-use mathlib.Core.Bool.{Bool, true, false, cond}
+use mathlib.Core.Path.{_≡_, sym, subst}
+use mathlib.Core.Bool.{Bool}
 use mathlib.Core.Logic.{_⊎_, inl, inr, ⊎-elim}
 use mathlib.Core.List.{List, [], _∷_}
-use Prim.Native.Nat.{ℕ, _+_, _-_, _*_, _/_, _%_, _≤_, _<_}
+use Prim.Native.Nat.{ℕ, _+_, _-_, _*_, _/_, _≤_, _<_}
 use native.Mathlib.Omega.{arith}
 use native.Mathlib.Nat.{mul-assoc, mul-le-mul, le-refl, mul-pos}
-use lib.Dec.{eqb}
 use Rattle.numbers.specs.Words.{half, top}
 use Rattle.extremes.specs.declared.Kind.{Kind}
 use Rattle.extremes.specs.declared.Kind.the-variants.{Sum, Product, Count, Max, Min}
-use Rattle.extremes.specs.Words.{empty-word, combined, furthest-word, reach-word, contributions}
+use Rattle.extremes.specs.Words.{empty-word, combined, reach-word, contributions}
 use Rattle.extremes.specs.Room.{Steps, Room}
-use Rattle.extremes.proofs.Values.{sides}
+use Rattle.extremes.proofs.Values.{reach-one}
 use Rattle.extremes.proofs.Contributions.{Proper, Legal}
 
 -- how far a word is from the word of 0
@@ -39,15 +38,6 @@ Bounded Max acc words = Unit {0}
 Bounded Min acc words = Unit {0}
 
 -- ---- a step
-
-reach-one : (u : Bool) (empty w l x : ℕ) → (reach-word u empty w l x ≡ w) ⊎ (reach-word u empty w l x ≡ empty)
-reach-one u empty w l x = go (eqb x 0) (eqb (x % 2) (l % 2)) (⊎-elim (λ e. inl (e .0)) (λ e. inr (e .0)) (sides u w empty))
-  where
-    go : (a b : Bool) → (furthest-word u w empty ≡ w) ⊎ (furthest-word u w empty ≡ empty)
-        → (cond a (furthest-word u w empty) (cond b empty w) ≡ w) ⊎ (cond a (furthest-word u w empty) (cond b empty w) ≡ empty)
-    go true b h = h
-    go false true h = inr refl
-    go false false h = inl refl
 
 abbrev Stepped : Kind → ℕ → List ℕ → ℕ → Type 0
 Stepped k acc rest x = Steps k acc x × Bounded k (combined k acc x) rest

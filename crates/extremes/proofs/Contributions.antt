@@ -1,7 +1,7 @@
 -- The fold on words stands for the fold of values: an entry's contribution stands for how far the entry reaches by its atom's standing,
 -- and each step stands for a combination.
-use mathlib.Core.Path.{_≡_, refl, sym, _∙_, ap}
-use mathlib.Core.Bool.{Bool, true, false, cond}
+use mathlib.Core.Path.{_≡_, refl, sym, _∙_, ap, subst}
+use mathlib.Core.Bool.{Bool, cond}
 use mathlib.Core.Logic.{_⊎_, inl, inr, ⊎-elim}
 use mathlib.Core.List.{List, [], _∷_}
 use Prim.Native.Nat.{ℕ, _-_, _/_, _%_, _≤_, _<_}
@@ -20,7 +20,7 @@ use Rattle.extremes.specs.declared.Kind.{Kind}
 use Rattle.extremes.specs.Stored.{standing-word}
 use Rattle.extremes.specs.Words.{meant, empty-word, combined, furthest-word, reach-word, contributions, folded}
 use Rattle.extremes.specs.Room.{Room}
-use Rattle.extremes.proofs.Values.{direction, unword-furthest, In, in-empty, unword-empty, furthest-in, combined-in, combined-means}
+use Rattle.extremes.proofs.Values.{direction, unword-furthest, In, in-empty, unword-empty, reach-one, combined-in, combined-means}
 
 -- ---- words of entries
 
@@ -91,13 +91,7 @@ module _ (k : Kind) (u : Bool) (n w l : ℕ) (fine : Proper k n w l) where
       go (inr e) (inr z) (inr p) = set (negsuc (l / 2 - 1)) (literal-odd l (fine .literal) e) 1 1 z p e (unword-empty k)
 
   reach-in : (x : ℕ) → In k (reach-word u (empty-word k) w l x)
-  reach-in x =
-      pick (furthest-word u w (empty-word k)) (cond (eqb (x % 2) (l % 2)) (empty-word k) w) (eqb x 0) (furthest-in k u w (empty-word k) (fine .weight) (in-empty k))
-      (pick (empty-word k) w (eqb (x % 2) (l % 2)) (in-empty k) (fine .weight))
-    where
-      pick : (a b : ℕ) (c : Bool) → In k a → In k b → In k (cond c a b)
-      pick a b true p q = p
-      pick a b false p q = q
+  reach-in x = ⊎-elim (λ e. subst (In k) (sym e) (fine .weight)) (λ e. subst (In k) (sym e) (in-empty k)) (reach-one u (empty-word k) w l x)
 
 -- ---- the fold
 

@@ -10,15 +10,12 @@ use lib.IntN.{ℤ}
 use lib.Dec.{eqb}
 use lib.ListN.{length}
 use lib.Seq.{length-slice}
-use Rattle.numbers.specs.Words.{top, unbias}
+use Rattle.numbers.specs.Words.{top}
 use Rattle.numbers.specs.Words.{word as word-of}
 use Rattle.numbers.specs.Extended.{up, down}
 use Rattle.numbers.proofs.Words.{parity, word-unword}
-use Rattle.meaning.specs.Meaning.{Side}
-use Rattle.meaning.specs.Meaning as m
-use Rattle.meaning.specs.Merge.{Rule}
 use Rattle.meaning.specs.Computed.{extreme}
-use Rattle.area.specs.Layout.{tag-at, kind-at, upper-at, head-at, bound-at, constant-at, weight-in, literal-in, written-at, merged-at, entry-at, entry-words, value-at, kind-of, side-of, constant-of, entries-of, rule-at}
+use Rattle.area.specs.Layout.{tag-at, kind-at, upper-at, head-at, bound-at, constant-at, weight-in, literal-in, written-at, merged-at, entry-at, entry-words, value-at, kind-of, side-of, entries-of, rule-at}
 use Rattle.area.specs.Whole.{RuleWhole}
 use Rattle.extremes.specs.declared.Kind.{Kind}
 use Rattle.extremes.specs.declared.Extremes.{Extremes}
@@ -26,7 +23,7 @@ use Rattle.extremes.specs.Stored.{Shows, Ready, ExtremesAre}
 use Rattle.extremes.specs.Words.{meant, start-word, extreme-word, FoldsAre}
 use Rattle.extremes.specs.Room.{Entries, Rooms}
 use Rattle.extremes.proofs.Loops.{words-from, from-start, from-next}
-use Rattle.extremes.proofs.Values.{coded, meant-coded, direction, in-top}
+use Rattle.extremes.proofs.Values.{coded, direction, in-top}
 use Rattle.extremes.proofs.Contributions.{Proper, Legal}
 use Rattle.extremes.proofs.Sound.{sided, rule-words, Sound, extreme-in, extreme-means}
 use Rattle.extremes.proofs.Whole.{near-far, sound-from}
@@ -41,21 +38,9 @@ side-is x =
     (λ (e : x % 2 ≡ 1). rw e)
     (parity x)
 
--- the rule of the stored words, but for its kind and its side
-abbrev rule-made : m.Kind → Side → List ℕ → ℕ → ℕ → ℕ → Rule
-rule-made kind side w n S b = record {
-  head = head-at w b;
-  kind = kind;
-  side = side;
-  bound = unbias (bound-at w b);
-  set = record { constant = constant-of kind (constant-at w b); entries = entries-of (entry-words w (entry-at w n S b) (merged-at w b)) };
-  written = written-at w b;
-}
-
 pub rule-is : (w : List ℕ) (n S b : ℕ) (k : Kind) → meant k ≡ kind-of (kind-at w b)
     → rule-words k (upper-at w b) (bound-at w b) (constant-at w b) (head-at w b) (written-at w b) (entry-words w (entry-at w n S b) (merged-at w b)) ≡ rule-at w n S b
-rule-is w n S b k e =
-    ap (λ x. rule-made x (sided (upper-at w b)) w n S b) e ∙ ap (λ x. rule-made (kind-of (kind-at w b)) x w n S b) (side-is (tag-at w b / 8))
+rule-is w n S b k e = rw (e, side-is (tag-at w b / 8))
 
 -- ---- the entries
 
@@ -130,5 +115,4 @@ pub one-trail : {w : List ℕ} {n S b : ℕ} {r : Extremes} (t : List ℤ) → R
     → r .greatest ≡ word-of (extreme up (rule-at w n S b) t) → ExtremesAre w n S b r
 one-trail {w} {b = b} t ready sh p q =
     let k = coded (kind-of (kind-at w b)) in
-    let e = meant-coded (kind-of (kind-at w b)) in
-    folds-extremes k ready e (record { least-is = p ∙ sym (extreme-is k ready e false t sh); greatest-is = q ∙ sym (extreme-is k ready e true t sh) })
+    folds-extremes (k .0) ready (k .1) (record { least-is = p ∙ sym (extreme-is (k .0) ready (k .1) false t sh); greatest-is = q ∙ sym (extreme-is (k .0) ready (k .1) true t sh) })

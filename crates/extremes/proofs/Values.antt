@@ -1,11 +1,12 @@
 -- Words stand for values: the order of words is the values' order, and each kind's combination of words is the combination of the values,
 -- where it does not wrap.
-use mathlib.Core.Path.{_≡_, refl, sym, _∙_, ap, subst}
-use mathlib.Core.Bool.{Bool, true, false}
+use mathlib.Core.Path.{_≡_, refl, sym, _∙_, ap}
+use mathlib.Core.Bool.{Bool, true, false, cond}
 use mathlib.Core.Logic.{_⊎_, inl, inr, ⊎-elim}
-use Prim.Native.Nat.{ℕ, _+_, _-_, _*_, _≤_, _<_}
+use Prim.Native.Nat.{ℕ, _+_, _-_, _*_, _%_, _≤_, _<_}
 use native.Mathlib.Omega.{arith}
 use native.Mathlib.Nat.{mul-pos}
+use lib.Dec.{eqb}
 use lib.IntN.{_+ℤ_, _*ℤ_}
 use Rattle.numbers.specs.Extended.{Direction, up, down, at}
 use Rattle.numbers.specs.Words.{half, top, unword}
@@ -15,25 +16,16 @@ use Rattle.meaning.specs.Meaning as m
 use Rattle.meaning.specs.Computed.{both, combine, furthest}
 use Rattle.extremes.specs.declared.Kind.{Kind}
 use Rattle.extremes.specs.declared.Kind.the-variants.{Sum, Product, Count, Max, Min}
-use Rattle.extremes.specs.Words.{meant, empty-word, combined, furthest-word, nearest-word}
+use Rattle.extremes.specs.Words.{meant, empty-word, combined, furthest-word, nearest-word, reach-word}
 use Rattle.extremes.specs.Room.{Steps}
 
 -- a kind of the code for each
-
-pub coded : m.Kind → Kind
-coded m.sum = Sum
-coded m.product = Product
-coded m.count = Count
-coded m.maximum = Max
-coded m.minimum = Min
-
-pub meant-coded : (k : m.Kind) → meant (coded k) ≡ k
-unfolding coded
-meant-coded m.sum = refl
-meant-coded m.product = refl
-meant-coded m.count = refl
-meant-coded m.maximum = refl
-meant-coded m.minimum = refl
+pub coded : (k : m.Kind) → (c : Kind) × (meant c ≡ k)
+coded m.sum = (Sum, refl)
+coded m.product = (Product, refl)
+coded m.count = (Count, refl)
+coded m.maximum = (Max, refl)
+coded m.minimum = (Min, refl)
 
 abbrev pub direction : Bool → Direction
 direction true = up
@@ -78,17 +70,24 @@ unword-empty Count = unword-word (empty (meant Count)) (omega arith)
 unword-empty Max = unword-word (empty (meant Max)) tt
 unword-empty Min = unword-word (empty (meant Min)) tt
 
-pub furthest-in : (k : Kind) (u : Bool) (a b : ℕ) → In k a → In k b → In k (furthest-word u a b)
-furthest-in k u a b p q = ⊎-elim (λ e. subst (In k) (sym (e .0)) p) (λ e. subst (In k) (sym (e .0)) q) (sides u a b)
+-- an entry contributes its weight or the empty value
+pub reach-one : (u : Bool) (empty w l x : ℕ) → (reach-word u empty w l x ≡ w) ⊎ (reach-word u empty w l x ≡ empty)
+reach-one u empty w l x = go (eqb x 0) (eqb (x % 2) (l % 2)) (⊎-elim (λ e. inl (e .0)) (λ e. inr (e .0)) (sides u w empty))
+  where
+    go : (a b : Bool) → (furthest-word u w empty ≡ w) ⊎ (furthest-word u w empty ≡ empty)
+        → (cond a (furthest-word u w empty) (cond b empty w) ≡ w) ⊎ (cond a (furthest-word u w empty) (cond b empty w) ≡ empty)
+    go true b h = h
+    go false true h = inr refl
+    go false false h = inl refl
 
 -- ---- combinations
 
-product-grows : (a x : ℕ) → half < a → half < x → 0 < (a - half) * (x - half)
-product-grows a x p q = mul-pos (omega arith) (omega arith)
-
 pub combined-in : (k : Kind) (a x : ℕ) → In k a → In k x → Steps k a x → In k (combined k a x)
 combined-in Sum a x p q s = (omega arith, omega arith)
-combined-in Product a x p q s = (omega (arith, product-grows a x (p .0) (q .0)), omega arith)
+combined-in Product a x p q s =
+    let m : 0 < a - half = omega arith in
+    let l : 0 < x - half = omega arith in
+    (omega (arith, mul-pos m l), omega arith)
 combined-in Count a x p q s = (omega arith, omega arith)
 combined-in Max a x p q s = omega arith
 combined-in Min a x p q s = omega arith

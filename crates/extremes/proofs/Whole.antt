@@ -83,28 +83,25 @@ multiplied-factors n (w ∷ l ∷ rest) g =
 -- ---- the whole sentence
 
 sum-bounded : (c written : ℕ) (words : List ℕ) → written ≤ 4096 → length (entries-of words) ≤ 4096 → Near (unbias c) (1000000000 * written)
-    → Each (λ e. Near (e .weight) (1000000000 * written)) (entries-of words) → (0 < c) × (c < top) × (spread words < c) × (c + spread words < top)
+    → Each (λ e. Near (e .weight) (1000000000 * written)) (entries-of words) → ((0 < c) × (c < top)) × ((spread words < c) × (c + spread words < top))
 sum-bounded c written words s few near h =
     let f : far c ≤ 1000000000 * written = near-far c (1000000000 * written) near in
-    let all : spread words ≤ 4096000000000 * length (entries-of words) =
-    small-spread words
+    let all = small-spread words
     (each-map (λ e. Near (e .weight) (1000000000 * written)) (λ e. Near (e .weight) 4096000000000) (entries-of words) (λ e (z : natAbs (e .weight) ≤ 1000000000 * written). omega arith) h) in
-    (omega arith, omega arith, omega arith, omega arith)
+    ((omega arith, omega arith), (omega arith, omega arith))
 
 module _ (lim : Limits) (n : ℕ) (upper : Bool) (bound c head written : ℕ) (words : List ℕ) (fit : Fitting lim) (few : length (entries-of words) ≤ 4096) where
   start-bounded : (k : Kind) → RuleWhole lim n (rule-words k upper bound c head written words) → written ≤ 4096 → Legal k n words → In k (start-word k c) × Bounded k (start-word k c) words
   start-bounded Sum r s g =
-      let h = sum-bounded c written words s few (r .constant)
-      (each-map (EntryWhole n head m.sum written) (λ e. Near (e .weight) (1000000000 * written)) (entries-of words) (λ e x. x .weighs .size) (r .entries)) in
-      ((h .0, h .1), (h .2, h .3))
+      sum-bounded c written words s few (r .constant)
+      (each-map (EntryWhole n head m.sum written) (λ e. Near (e .weight) (1000000000 * written)) (entries-of words) (λ e x. x .weighs .size) (r .entries))
   start-bounded Product r s g =
       let p : T (leZ (multiplied (weights-of (entries-of words))) (pos 1000000000000000000)) = r .product refl in
       let q : factors words ≤ 1000000000000000000 = leb→le (factors words) 1000000000000000000 (subst (λ z. T (leZ z (pos 1000000000000000000))) (multiplied-factors n words g) p) in
       (in-empty Product, (omega arith, omega arith))
   start-bounded Count r s g =
-      let h = sum-bounded c written words s few (r .constant)
-      (each-map (EntryWhole n head m.count written) (λ e. Near (e .weight) (1000000000 * written)) (entries-of words) (λ e x. x .weighs .size) (r .entries)) in
-      ((h .0, h .1), (h .2, h .3))
+      sum-bounded c written words s few (r .constant)
+      (each-map (EntryWhole n head m.count written) (λ e. Near (e .weight) (1000000000 * written)) (entries-of words) (λ e x. x .weighs .size) (r .entries))
   start-bounded Max r s g = (in-empty Max, tt)
   start-bounded Min r s g = (in-empty Min, tt)
 

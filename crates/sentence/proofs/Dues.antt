@@ -29,18 +29,10 @@ pub one-literal : (r : Rule) (t : List ℤ) (a : ℕ) (rest : List ℕ) (o : ℤ
 unfolding first-due
 one-literal r t a rest o e n = go (two-literals o a e)
   where
-    at-first : (x y : Bool) (f g z : m.Said) → y ≡ false → cond x f (cond y g z) ≡ cond x f z
-    at-first x y f g z q = ap (λ c. cond x f (cond c g z)) q
-
     go : (o ≡ pos a) ⊎ (o ≡ negℤ (pos a))
         → cond (due r t (pos a)) (m.forced (pos a)) (cond (due r t (negℤ (pos a))) (m.forced (negℤ (pos a))) (first-due r t rest)) ≡ cond (due r t o) (m.forced o) (first-due r t rest)
-    go (inl q) =
-        at-first (due r t (pos a)) (due r t (negℤ (pos a))) (m.forced (pos a)) (m.forced (negℤ (pos a))) (first-due r t rest) (ap (λ z. due r t (negℤ z)) (sym q) ∙ n)
-        ∙ ap (λ z. cond (due r t z) (m.forced z) (first-due r t rest)) (sym q)
-    go (inr q) =
-        let none : due r t (pos a) ≡ false = ap (due r t) (sym (negℤ-negℤ (pos a)) ∙ ap negℤ (sym q)) ∙ n in
-        ap (λ c. cond c (m.forced (pos a)) (cond (due r t (negℤ (pos a))) (m.forced (negℤ (pos a))) (first-due r t rest))) none
-        ∙ ap (λ z. cond (due r t z) (m.forced z) (first-due r t rest)) (sym q)
+    go (inl q) = let none : due r t (negℤ (pos a)) ≡ false = ap (λ z. due r t (negℤ z)) (sym q) ∙ n in rw (q, none)
+    go (inr q) = let none : due r t (pos a) ≡ false = ap (due r t) (sym (negℤ-negℤ (pos a)) ∙ ap negℤ (sym q)) ∙ n in rw (q, none)
 
 pub set-undue : (r : Rule) (t : List ℤ) (l : ℤ) (b : Bool) → standing t (atom l) ≡ fixed b → due r t l ≡ false
 set-undue r t l b e = ap (λ s. is-free s && refuted r (negℤ l ∷ t)) e

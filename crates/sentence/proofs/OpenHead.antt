@@ -17,13 +17,12 @@ use Rattle.meaning.proofs.Trails.{opposite-atom, opposite-truth}
 use Rattle.meaning.proofs.Verdicts.{refuted-head, refuted-headless}
 use Rattle.area.specs.Layout.{entries-of}
 use Rattle.extremes.specs.declared.Kind.{Kind}
-use Rattle.sentence.specs.declared.Said.the-variants.{Silent, Forced}
 use Rattle.extremes.specs.Stored.{standing-word}
 use Rattle.sentence.specs.Sentence.{said-of}
 use Rattle.extremes.specs.Words.{extreme-word}
 use Rattle.sentence.specs.Words.{limit-word, upwards, keeps, head-says}
 use Rattle.extremes.proofs.Contributions.{ShowsIn}
-use Rattle.sentence.proofs.Dues.{said-cond, passed-over, free-due}
+use Rattle.sentence.proofs.Dues.{passed-over, free-due}
 use Rattle.extremes.proofs.Sound.{sided, rule-words, Sound}
 use Rattle.sentence.proofs.Comparisons.{kept-at}
 
@@ -71,18 +70,15 @@ module _ {n : ℕ} {k : Kind} {bound c head : ℕ} {words : List ℕ} (sound : S
   pub says-open : says R t ≡ said-of (head-says (not (at-extreme false)) (not (at-extreme true)) head)
   unfolding says first-due
   says-open =
-      ap (λ x. cond x m.conflict (first-due R t (scope R))) (ap (refuted-at R t) head-free)
-      ∙ ap (λ x. cond x (m.forced (pos head)) (cond (due R t (negℤ (pos head))) (m.forced (negℤ (pos head))) (first-due R t (places (entries-of words))))) due-pos
-      ∙ ap (λ x. cond (not (at-extreme false)) (m.forced (pos head)) (cond x (m.forced (negℤ (pos head))) (first-due R t (places (entries-of words))))) due-neg
-      ∙ ap (λ x. cond (not (at-extreme false)) (m.forced (pos head)) (cond (not (at-extreme true)) (m.forced (negℤ (pos head))) x)) (entries-silent (entries-of words) (sound .headless))
-      ∙ sym
-      (said-cond (not (at-extreme false)) (Forced (2 * head)) (cond (not (at-extreme true)) (Forced (2 * head + 1)) Silent)
-      ∙ ap (λ x. cond (not (at-extreme false)) (m.forced (literal-of (2 * head))) x) (said-cond (not (at-extreme true)) (Forced (2 * head + 1)) Silent)
-      ∙ ap (λ l. cond (not (at-extreme false)) (m.forced l) (cond (not (at-extreme true)) (m.forced (literal-of (2 * head + 1))) m.silent)) even
-      ∙ ap (λ l. cond (not (at-extreme false)) (m.forced (pos head)) (cond (not (at-extreme true)) (m.forced l) m.silent)) odd)
+      ap (λ x. cond x m.conflict (first-due R t (scope R))) (ap (refuted-at R t) head-free) ∙ go (not (at-extreme false)) due-pos (not (at-extreme true)) due-neg
     where
       even : literal-of (2 * head) ≡ pos head
       even = let e : 2 * head / 2 ≡ head = omega arith in literal-even (2 * head) (omega arith) ∙ ap pos e
 
       odd : literal-of (2 * head + 1) ≡ negℤ (pos head)
       odd = opposite-even (2 * head) (omega (arith, sound .head-low)) (omega arith) ∙ ap negℤ even
+
+      go : (x : Bool) → due R t (pos head) ≡ x → (y : Bool) → due R t (negℤ (pos head)) ≡ y → first-due R t (scope R) ≡ said-of (head-says x y head)
+      go true p y q = rw (p, even)
+      go false p true q = rw (p, q, odd)
+      go false p false q = rw (p, q) (entries-silent (entries-of words) (sound .headless))

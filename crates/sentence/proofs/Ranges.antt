@@ -2,7 +2,7 @@
 -- lower one is the lesser, entry by entry. So where the comparison has its truth at the other extreme too, no entry can take it away.
 use mathlib.Core.Path.{_≡_, sym, ap}
 use mathlib.Core.Bool.{Bool, true, false, not, cond}
-use mathlib.Core.Logic.{_⊎_, inl, inr}
+use mathlib.Core.Logic.{_⊎_, inl, inr, ⊎-elim}
 use mathlib.Core.List.{List, [], _∷_}
 use Prim.Native.Nat.{ℕ, _-_, _/_, _%_, _≤_, min, max}
 use native.Mathlib.Omega.{arith}
@@ -13,6 +13,7 @@ use Rattle.numbers.specs.Words.{half}
 use Rattle.extremes.specs.declared.Kind.{Kind}
 use Rattle.extremes.specs.declared.Kind.the-variants.{Sum, Product, Count, Max, Min}
 use Rattle.extremes.specs.Words.{empty-word, combined, reach-word, contributions, folded, extreme-word, start-word}
+use Rattle.extremes.proofs.Values.{reach-one}
 use Rattle.sentence.specs.Words.{keeps}
 
 combined-mono : (k : Kind) (a b x y : ℕ) → a ≤ b → x ≤ y → combined k a x ≤ combined k b y
@@ -30,18 +31,8 @@ abbrev pub Agreeing : ℕ → ℕ → Type 0
 Agreeing x y = (x ≡ 0) ⊎ (y ≡ 0) ⊎ (x ≡ y)
 
 reach-mono : (empty w l x y : ℕ) → Agreeing x y → reach-word false empty w l x ≤ reach-word true empty w l y
-reach-mono empty w l x y (inl e) = rw e (pick (eqb y 0) (eqb (y % 2) (l % 2)))
-  where
-    pick : (b c : Bool) → min w empty ≤ cond b (max w empty) (cond c empty w)
-    pick true c = omega arith
-    pick false true = omega arith
-    pick false false = omega arith
-reach-mono empty w l x y (inr (inl e)) = rw e (pick (eqb x 0) (eqb (x % 2) (l % 2)))
-  where
-    pick : (b c : Bool) → cond b (min w empty) (cond c empty w) ≤ max w empty
-    pick true c = omega arith
-    pick false true = omega arith
-    pick false false = omega arith
+reach-mono empty w l x y (inl e) = rw e (⊎-elim (λ q. omega arith) (λ q. omega arith) (reach-one true empty w l y))
+reach-mono empty w l x y (inr (inl e)) = rw e (⊎-elim (λ q. omega arith) (λ q. omega arith) (reach-one false empty w l x))
 reach-mono empty w l x y (inr (inr e)) = rw e (pick (eqb y 0) (cond (eqb (y % 2) (l % 2)) empty w))
   where
     pick : (b : Bool) (z : ℕ) → cond b (min w empty) z ≤ cond b (max w empty) z

@@ -14,7 +14,7 @@ use Rattle.extremes.specs.declared.Kind.{Kind}
 use Rattle.extremes.specs.Stored.{Shows, Ready, ExtremesAre}
 use Rattle.extremes.specs.Words.{meant, empty-word}
 use Rattle.extremes.specs.Room.{Entries}
-use Rattle.extremes.proofs.Values.{coded, meant-coded}
+use Rattle.extremes.proofs.Values.{coded}
 use Rattle.extremes.proofs.Contributions.{Legal}
 use Rattle.extremes.proofs.Sound.{rule-words, Sound}
 use Rattle.extremes.proofs.Stored.{rule-is, sound-at, entries-at, extreme-folds}
@@ -122,7 +122,7 @@ module _ {w : List ℕ} {n S b least greatest : ℕ} (ready : Ready w n S b) (ar
         go false p false r = answered Silent tt tt (λ t sh. rw (p, r) at (told t sh))
 
   pub known-open : (upper : Bool) → upper-at w b ≡ upper → v (head-at w b) ≡ 0 → KnownIs w n S b (head-known (undecided (upwards upper false)) (undecided (upwards upper true)) (head-at w b))
-  known-open = opened (coded (kind-of (kind-at w b))) (meant-coded (kind-of (kind-at w b)))
+  known-open = opened (coded (kind-of (kind-at w b)) .0) (coded (kind-of (kind-at w b)) .1)
 
 -- ---- read off an answer
 

@@ -6,7 +6,7 @@ use Prim.Native.Nat.{ℕ, _%_}
 use lib.Dec.{eqb, leb}
 use Rattle.area.specs.Layout.{head-at, kind-at, upper-at, value-at, kind-of}
 use Rattle.extremes.specs.Stored.{Ready, ExtremesAre}
-use Rattle.extremes.proofs.Values.{coded, meant-coded}
+use Rattle.extremes.proofs.Values.{coded}
 use Rattle.sentence.specs.declared.Said.the-variants as said
 use Rattle.sentence.specs.declared.Known.the-variants as known
 use Rattle.sentence.specs.Sentence.{SaidIs}
@@ -25,4 +25,4 @@ module _ {w : List ℕ} {n S b least greatest : ℕ} (ready : Ready w n S b) (ar
   -- the head is fixed, and at both extremes the comparison has its truth
   pub settled-fixed : (u : Bool) → ¬ (value-at w n (head-at w b) ≡ 0) → upwards (upper-at w b) (eqb (value-at w n (head-at w b) % 2) 1) ≡ u
       → keeps u (limit-at w b) (cond u greatest least) ≡ true → keeps u (limit-at w b) (cond (not u) greatest least) ≡ true → SaidIs w n S b said.Silent
-  settled-fixed u fixed d e o = known-so {x = known.Silent} (known-fixed ready are (coded (kind-of (kind-at w b))) (meant-coded (kind-of (kind-at w b))) u fixed d) (rw (e, o)) .said
+  settled-fixed u fixed d e o = known-so {x = known.Silent} (known-fixed ready are (coded (kind-of (kind-at w b)) .0) (coded (kind-of (kind-at w b)) .1) u fixed d) (rw (e, o)) .said

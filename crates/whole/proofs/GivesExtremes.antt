@@ -12,11 +12,11 @@ use Rattle.meaning.specs.Merge.{Rule}
 use Rattle.meaning.specs.Computed.{Standing, free, fixed, standing, extreme}
 use Rattle.area.specs.Layout.{word, tag-at, upper-at, written-at, merged-at, entry-at, entry-words, kind-of, rule-at}
 use Rattle.extremes.specs.Stored.{standing-word, Ready}
-use Rattle.extremes.specs.Words.{meant, extreme-word}
+use Rattle.extremes.specs.Words.{extreme-word}
 use Rattle.extremes.proofs.Values.{direction, in-top}
 use Rattle.extremes.proofs.Sound.{extreme-in, extreme-means}
 use Rattle.extremes.proofs.Stored.{rule-is, sound-at}
-use Rattle.extremes.proofs.Values.{coded, meant-coded}
+use Rattle.extremes.proofs.Values.{coded}
 
 -- a value word for each standing, so that some values show any trail
 value-of : Standing → ℕ
@@ -33,8 +33,9 @@ value-shows (fixed false) = refl
 module _ (w : List ℕ) (n S b : ℕ) (ready : Ready w n S b) where
   given-back : (u : Bool) (t : List ℤ) → unword (word-of (extreme (direction u) (rule-at w n S b) t)) ≡ extreme (direction u) (rule-at w n S b) t
   given-back u t =
-      let k = coded (kind-of (tag-at w b % 8)) in
-      let e : meant k ≡ kind-of (tag-at w b % 8) = meant-coded (kind-of (tag-at w b % 8)) in
+      let c = coded (kind-of (tag-at w b % 8)) in
+      let k = c .0 in
+      let e = c .1 in
       let words = entry-words w (entry-at w n S b) (merged-at w b) in
       let sound = sound-at w n S b ready k e in
       let v : ℕ → ℕ = λ a. value-of (standing t a) in

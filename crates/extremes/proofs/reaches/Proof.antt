@@ -4,17 +4,11 @@ use borrow.Author.Needs.{needs}
 use Rattle.extremes.proofs.reaches.Statement.{statement}
 use Rattle.extremes.proofs.reaches.Tie as tie
 
-returns : tie.Need-returns
-returns c = record { least-is = rw (eq-eqb _ _ (c .before .before .if1 .taken)) (c .before .furthest .ensures); greatest-is = rw (eq-eqb _ _ (c .before .before .if1 .taken)) (c .furthest2 .ensures) }
-
-returns-2 : tie.Need-returns-2
-returns-2 c = record { least-is = rw (ne-eqb _ _ (c .before .if1 .left), eq-eqb _ _ (c .if2 .taken)); greatest-is = rw (ne-eqb _ _ (c .before .if1 .left), eq-eqb _ _ (c .if2 .taken)) }
-
-returns-3 : tie.Need-returns-3
-returns-3 c = record { least-is = rw (ne-eqb _ _ (c .before .if1 .left), ne-eqb _ _ (c .if2 .left)); greatest-is = rw (ne-eqb _ _ (c .before .if1 .left), ne-eqb _ _ (c .if2 .left)) }
-
 pub reaches-spec : {M : Type 1} → statement M
 reaches-spec =
     tie.close
     (tie.spec
-    (λ c κs. search needs) (λ c κs. search needs) returns returns-2 returns-3)
+    (λ c κs. search needs) (λ c κs. search needs)
+    (λ c. let e = eq-eqb _ _ (c .before .before .if1 .taken) in record { least-is = rw e (c .before .furthest .ensures); greatest-is = rw e (c .furthest2 .ensures) })
+    (λ c. let e = ne-eqb _ _ (c .before .if1 .left) in let f = eq-eqb _ _ (c .if2 .taken) in record { least-is = rw (e, f); greatest-is = rw (e, f) })
+    (λ c. let e = ne-eqb _ _ (c .before .if1 .left) in let f = ne-eqb _ _ (c .if2 .left) in record { least-is = rw (e, f); greatest-is = rw (e, f) }))

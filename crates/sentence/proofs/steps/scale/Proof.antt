@@ -7,16 +7,10 @@ use Rattle.numbers.specs.Words.{half}
 use Rattle.sentence.proofs.steps.scale.Statement.{statement}
 use Rattle.sentence.proofs.steps.scale.Tie as tie
 
-returns : tie.Need-returns
-returns c = rw (c .if1 .taken)
-
-returns-2 : tie.Need-returns-2
-returns-2 c = rw (c .if1 .left)
-
 pub scale-spec : {M : Type 1} → statement M
 scale-spec =
     tie.close
     (tie.spec
     (λ c. search needs) (λ c. search needs) (λ c. search needs)
-    (λ c. omega (arith, div-le-self (c .before .args .e - half) (c .before .args .w - half))) returns (λ c. search needs) (λ c. search needs)
-    (λ c. omega (arith, c .before .pre .3 (c .if1 .left))) (λ c. omega (arith, c .before .pre .3 (c .if1 .left))) returns-2)
+    (λ c. omega (arith, div-le-self (c .before .args .e - half) (c .before .args .w - half))) (λ c. rw (c .if1 .taken)) (λ c. search needs) (λ c. search needs)
+    (λ c. omega (arith, c .before .pre .3 (c .if1 .left))) (λ c. omega (arith, c .before .pre .3 (c .if1 .left))) (λ c. rw (c .if1 .left)))
