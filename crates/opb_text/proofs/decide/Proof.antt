@@ -20,18 +20,6 @@ returns c = c .refusal .ensures ∙ long-answer (c .before .before .before .args
 loop-holds : tie.Need-loop-holds Inv-loop μ-loop
 loop-holds c = first (c .before .before .before .args .text .now) (c .start .result) (c .start .ensures) (c .before .if1 .left)
 
-step-requires : tie.Need-step-requires Inv-loop μ-loop
-step-requires c κs = sound-here (c .before .before .loop .inv)
-
-loop-again : tie.Need-loop-again Inv-loop μ-loop
-loop-again c = more (c .before .before .before .before .before .before .loop .inv) (c .before .before .before .before .before .loop-test .taken) (c .before .before .before .step .ensures) (c .before .t .given .0 .0) (c .before .t .given .1)
-
-loop-again-2 : tie.Need-loop-again-2 Inv-loop μ-loop
-loop-again-2 c = term (c .before .before .before .before .before .before .loop .inv) (c .before .before .before .before .before .loop-test .taken) (c .before .before .before .step .ensures) (c .before .t2 .given .0 .0) (c .before .t2 .given .1)
-
-loop-again-3 : tie.Need-loop-again-3 Inv-loop μ-loop
-loop-again-3 c = constraint (c .before .before .before .before .before .before .loop .inv) (c .before .before .before .before .before .loop-test .taken) (c .before .before .before .step .ensures) (c .before .t3 .given .0 .0) (c .before .t3 .given .1)
-
 returns-2 : tie.Need-returns-2 Inv-loop μ-loop
 returns-2 c = c .refusal2 .ensures ∙ fault (c .before .before .before .before .before .before .before .loop .inv) (c .before .before .before .before .before .before .loop-test .taken) (c .before .before .before .before .step .ensures) (c .before .before .before .before .before .before .before .before .before .before .before .args .sentences) (c .before .before .before .before .before .before .before .before .before .before .before .args .entries) (c .before .before .n .given .0 .0) (c .before .before .n .given .1)
 
@@ -42,7 +30,7 @@ pub decide-spec : {M : Type 1} → statement M
 decide-spec =
     tie.close
     (tie.spec
-    Inv-loop μ-loop (λ c κs. search needs) returns (λ c κs. search needs) loop-holds (λ c. omega arith) (λ c. omega arith) step-requires
-    (λ c. search needs) (λ c. omega arith) loop-again (λ c. search needs) (λ c. omega arith) loop-again-2 (λ c. search needs)
-    (λ c. omega (arith, c .before .before .before .before .before .before .loop .inv .few)) (λ c. omega arith) loop-again-3 (λ c. search needs)
-    (λ c κs. search needs) returns-2 (λ c κs. search needs) returns-3)
+    Inv-loop μ-loop (λ c κs. search needs) returns (λ c κs. search needs) loop-holds (λ c. omega arith) (λ c. omega arith) (λ c κs. search sound-here)
+    (λ c. search needs) (λ c. omega arith) (λ c. search more) (λ c. search needs) (λ c. omega arith) (λ c. search term) (λ c. search needs)
+    (λ c. omega (arith, c .before .before .before .before .before .before .loop .inv .few)) (λ c. omega arith) (λ c. search constraint)
+    (λ c. search needs) (λ c κs. search needs) returns-2 (λ c κs. search needs) returns-3)

@@ -13,9 +13,6 @@ Inv-loop column₀ from count to i₀ column i = Repeated column₀ from count c
 abbrev μ-loop : tie.MeasureT-loop
 μ-loop column₀ from count to i₀ column i = count - i
 
-loop-holds : tie.Need-loop-holds Inv-loop μ-loop
-loop-holds c = none-repeated (c .args .column .now) (c .args .from) (c .args .count) (c .pre)
-
 loop-again : tie.Need-loop-again Inv-loop μ-loop
 loop-again c = one-more (c .before .before .before .args .column .now) (c .before .before .before .args .from) (c .before .before .before .args .count) (c .before .before .loop .inv) (c .before .loop-test .taken) (search needs) refl
 
@@ -26,5 +23,6 @@ pub repeat-spec : {M : Type 1} → statement M
 repeat-spec =
     tie.close
     (tie.spec
-    Inv-loop μ-loop (λ c. omega arith) loop-holds (λ c. omega arith) (λ c. search needs) (λ c. omega arith) (λ c. omega arith) (λ c. search needs)
-    (λ c. omega arith) (λ c. omega arith) (λ c. omega arith) loop-again (λ c. c .before .loop .inv .long) returns)
+    Inv-loop μ-loop (λ c. omega arith) (λ c. none-repeated (c .args .column .now) (c .args .from) (c .args .count) (c .pre)) (λ c. omega arith)
+    (λ c. search needs) (λ c. omega arith) (λ c. omega arith) (λ c. search needs) (λ c. omega arith) (λ c. omega arith) (λ c. omega arith) loop-again
+    (λ c. c .before .loop .inv .long) returns)
