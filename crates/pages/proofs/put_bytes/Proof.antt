@@ -13,12 +13,6 @@ Inv-loop page₀ at text i₀ page i = Copied text page₀ at page i
 abbrev μ-loop : tie.MeasureT-loop
 μ-loop page₀ at text i₀ page i = length text - i
 
-returns : tie.Need-returns Inv-loop μ-loop
-returns c = stays (c .before .args .text .now) (omega arith)
-
-returns-2 : tie.Need-returns-2 Inv-loop μ-loop
-returns-2 c = full (omega arith) (omega arith)
-
 loop-holds : tie.Need-loop-holds Inv-loop μ-loop
 loop-holds c = none-copied (c .before .before .args .text .now) (c .before .before .args .page .now) (c .before .before .args .at)
 
@@ -26,19 +20,15 @@ slice-write-page : tie.Need-slice-write-page Inv-loop μ-loop
 slice-write-page c = let i = c .before .before .loop .inv in
     omega (arith, i .length-same)
 
-loop-again : tie.Need-loop-again Inv-loop μ-loop
-loop-again c = one-copied (omega arith) (c .before .loop-test .taken) (c .before .before .loop .inv)
-
 add-result-2 : tie.Need-add-result-2 Inv-loop μ-loop
 add-result-2 c = let i = c .before .loop .inv in
     omega (arith, i .few)
-
-returns-3 : tie.Need-returns-3 Inv-loop μ-loop
-returns-3 c = let i = c .before .loop .inv in all-put (omega arith) (omega (arith, i .few)) i
 
 pub put-bytes-spec : {M : Type 1} → statement M
 put-bytes-spec =
     tie.close
     (tie.spec
-    Inv-loop μ-loop returns (λ c. search needs) (λ c. search needs) returns-2 loop-holds (λ c. search needs) (λ c. omega arith) slice-write-page
-    (λ c. search needs) (λ c. search needs) loop-again add-result-2 (λ c. c .before .loop .inv .length-same) returns-3)
+    Inv-loop μ-loop (λ c. stays (c .before .args .text .now) (omega arith)) (λ c. search needs) (λ c. search needs)
+    (λ c. full (omega arith) (omega arith)) loop-holds (λ c. search needs) (λ c. omega arith) slice-write-page (λ c. search needs) (λ c. search needs)
+    (λ c. one-copied (omega arith) (c .before .loop-test .taken) (c .before .before .loop .inv)) add-result-2 (λ c. c .before .loop .inv .length-same)
+    (λ c. let i = c .before .loop .inv in all-put (omega arith) (omega (arith, i .few)) i))

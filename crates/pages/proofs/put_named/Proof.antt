@@ -5,10 +5,8 @@ use Rattle.pages.proofs.Numbers.{signed-put}
 use Rattle.pages.proofs.put_named.Statement.{statement}
 use Rattle.pages.proofs.put_named.Tie as tie
 
-returns : tie.Need-returns
-returns c = search (then, signed-put)
-
 pub put-named-spec : {M : Type 1} → statement M
-put-named-spec = tie.close
+put-named-spec =
+    tie.close
     (tie.spec
-    (λ c κs. search needs) (λ c κs. search needs) (λ c. search needs) returns)
+    (λ c κs. search needs) (λ c κs. search needs) (λ c. search needs) (λ c. search (then, signed-put)))
