@@ -11,7 +11,7 @@ use Rattle.book.specs.Rows.{numbered, any}
 use Rattle.book.specs.Table.{speech, run, reply}
 use Rattle.columns.specs.Columns.{paired, written-from, sentences-in}
 use Rattle.columns.specs.Refusals.{some, both-signs, all-refusals, first-refusal}
-use Rattle.opb_grammar.specs.Grammar.{more, long-fault, v-fault, c-fault, variable-fault, expect, begin, between, relation-at-least, relation-equal, finish, place, ends}
+use Rattle.opb_grammar.specs.Grammar.{more, long-fault, v-fault, c-fault, variable-fault, expect, begin, between, relation-at-least, relation-equal, finish, transition, ends}
 use Rattle.opb_text.specs.Text.{go, reading, rows-from, all-entries}
 use Rattle.numbers.specs.Text.{bytes, decimal-within}
 use Rattle.listing.specs.Output.{row-lines, bound-lines, heads-given, output}
