@@ -31,28 +31,10 @@ use Rattle.extremes.proofs.Contributions.{literal-place, Proper, ShowsIn}
 use Rattle.sentence.proofs.Swaps.{same-swap}
 use Rattle.sentence.proofs.Turns.{turned-loses}
 use Rattle.sentence.proofs.Ranges.{Agreeing, range-keeps}
-use Rattle.sentence.proofs.Puts.{Opposite, opposite, opposite-literal, value-other, put, put-shows, Member, first, later, member-proper, member-off, put-swaps, Wanted, wanted-is}
+use Rattle.sentence.proofs.Puts.{Opposite, opposite, value-other, put, put-shows, Member, first, later, member-proper, member-off, put-swaps, Wanted, wanted-is}
 use Rattle.sentence.proofs.Dues.{said-cond, passed-over, one-literal, set-undue, free-due}
 use Rattle.extremes.proofs.Sound.{rule-words, Sound}
 use Rattle.sentence.proofs.Comparisons.{kept-at}
-
--- a scan by any test of the weights
-scan-by : Kind → Bool → (ℕ → ℕ) → (ℕ → Bool) → List ℕ → Said
-scan-by k u v test [] = Silent
-scan-by k u v test (w ∷ []) = Silent
-scan-by k u v test (w ∷ l ∷ rest) = cond (eqb (v (l / 2)) 0 && test w) (Forced (wanted-word u (empty-word k) w l)) (scan-by k u v test rest)
-
-scan-scanned : (k : Kind) (u : Bool) (v : ℕ → ℕ) (limit e : ℕ) (ws : List ℕ) → scan-by k u v (turns-word k u limit e) ws ≡ scanned k u limit e v ws
-unfolding scan-by scanned
-scan-scanned k u v limit e [] = refl
-scan-scanned k u v limit e (w ∷ []) = refl
-scan-scanned k u v limit e (w ∷ l ∷ rest) = ap (cond (eqb (v (l / 2)) 0 && turns-word k u limit e w) (Forced (wanted-word u (empty-word k) w l))) (scan-scanned k u v limit e rest)
-
-scan-silent : (k : Kind) (u : Bool) (v : ℕ → ℕ) (ws : List ℕ) → scan-by k u v (λ w. false) ws ≡ Silent
-unfolding scan-by
-scan-silent k u v [] = refl
-scan-silent k u v (w ∷ []) = refl
-scan-silent k u v (w ∷ l ∷ rest) = ap (λ c. cond c (Forced (wanted-word u (empty-word k) w l)) (scan-by k u v (λ w. false) rest)) (and-false (eqb (v (l / 2)) 0)) ∙ scan-silent k u v rest
 
 -- the second best is of the kind's own contributions, where it counts
 second-same : (k : Kind) (u : Bool) (limit : ℕ) (v : ℕ → ℕ) (ws : List ℕ)
@@ -129,7 +111,7 @@ module _ {n : ℕ} {k : Kind} {bound c head : ℕ} {words : List ℕ} (sound : S
 
     due-wanted : due R t (literal-of (wanted w l)) ≡ not (keeps u limit (turned w l))
     due-wanted =
-        free-due R t (literal-of (wanted w l)) entry-free ∙ ap (λ z. refuted R (z ∷ t)) (sym (opposite-literal (wanted w l) (g .real)))
+        free-due R t (literal-of (wanted w l)) entry-free ∙ ap (λ z. refuted R (z ∷ t)) (sym (other .literal))
         ∙ entry-refuted e (opposite-word (wanted w l)) (other .real) (other .atom ∙ g .atom)
 
     due-opposite : keeps u limit (E v) ≡ true → due R t (negℤ (literal-of (wanted w l))) ≡ false
@@ -151,15 +133,16 @@ module _ {n : ℕ} {k : Kind} {bound c head : ℕ} {words : List ℕ} (sound : S
     turned-range h =
         range-keeps k u limit c v (put v (opposite-word (wanted w l))) words (put-agrees v (opposite-word (wanted w l)) (ap v (other .atom ∙ g .atom) ∙ open-is)) h
 
-  -- ---- the scan, by a test that tells of each open entry whether it turns
+  -- ---- any scan by a test that tells of each open entry whether it turns
 
-  module _ (fine : keeps u limit (E v) ≡ true) (test : ℕ → Bool)
+  module _ (fine : keeps u limit (E v) ≡ true) (scan : List ℕ → Said) (test : ℕ → Bool) (none : scan [] ≡ Silent) (one : (w : ℕ) → scan (w ∷ []) ≡ Silent)
+      (more : (w l : ℕ) (rest : List ℕ) → scan (w ∷ l ∷ rest) ≡ cond (eqb (v (l / 2)) 0 && test w) (Forced (wanted w l)) (scan rest))
       (right : (w l : ℕ) → Member w l words → v (l / 2) ≡ 0 → not (keeps u limit (turned w l)) ≡ test w) where
-    scan-told : (ws : List ℕ) → ((w l : ℕ) → Member w l ws → Member w l words) → first-due R t (places (entries-of ws)) ≡ said-of (scan-by k u v test ws)
-    unfolding scan-by entries-of first-due
-    scan-told [] f = refl
-    scan-told (w ∷ []) f = refl
-    scan-told (w ∷ l ∷ rest) f = go (eqb (v (l / 2)) 0) refl (scan-told rest (λ w′ l′ e. f w′ l′ (later e)))
+    scan-told : (ws : List ℕ) → ((w l : ℕ) → Member w l ws → Member w l words) → first-due R t (places (entries-of ws)) ≡ said-of (scan ws)
+    unfolding entries-of first-due
+    scan-told [] f = ap said-of (sym none)
+    scan-told (w ∷ []) f = ap said-of (sym (one w))
+    scan-told (w ∷ l ∷ rest) f = go (eqb (v (l / 2)) 0) refl (scan-told rest (λ w′ l′ e. f w′ l′ (later e))) ∙ ap said-of (sym (more w l rest))
       where
         low : 2 ≤ l
         low = member-proper k n (f w l first) (sound .legal) .literal
@@ -167,31 +150,30 @@ module _ {n : ℕ} {k : Kind} {bound c head : ℕ} {words : List ℕ} (sound : S
         here-at : standing t (atom (literal-of l)) ≡ standing-word (v (l / 2))
         here-at = ap (standing t) (literal-place l low) ∙ sh (l / 2) (omega (arith, low)) (member-proper k n (f w l first) (sound .legal) .atom-high)
 
-        go : (x : Bool) → eqb (v (l / 2)) 0 ≡ x → first-due R t (places (entries-of rest)) ≡ said-of (scan-by k u v test rest)
-            → first-due R t (atom (literal-of l) ∷ places (entries-of rest)) ≡ said-of (cond (x && test w) (Forced (wanted w l)) (scan-by k u v test rest))
+        go : (x : Bool) → eqb (v (l / 2)) 0 ≡ x → first-due R t (places (entries-of rest)) ≡ said-of (scan rest)
+            → first-due R t (atom (literal-of l) ∷ places (entries-of rest)) ≡ said-of (cond (x && test w) (Forced (wanted w l)) (scan rest))
         go true p ih =
             let z : v (l / 2) ≡ 0 = eqb-true (v (l / 2)) 0 p in
             let g = wanted-is u (empty-word k) w l low in
             one-literal R t (atom (literal-of l)) (places (entries-of rest)) (literal-of (wanted w l)) (literal-place (wanted w l) (g .real) ∙ g .atom ∙ sym (literal-place l low)) (due-opposite (f w l first) z fine)
             ∙ ap (λ d. cond d (m.forced (literal-of (wanted w l))) (first-due R t (places (entries-of rest)))) (due-wanted (f w l first) z ∙ right w l (f w l first) z)
             ∙ ap (cond (test w) (m.forced (literal-of (wanted w l)))) ih
-            ∙ sym (said-cond (test w) (Forced (wanted w l)) (scan-by k u v test rest))
+            ∙ sym (said-cond (test w) (Forced (wanted w l)) (scan rest))
         go false p ih =
             let set : standing t (atom (literal-of l)) ≡ fixed (eqb (v (l / 2) % 2) 1) = here-at ∙ ap (λ y. cond y free (fixed (eqb (v (l / 2) % 2) 1))) p in
             passed-over R t (atom (literal-of l)) (places (entries-of rest)) (set-undue R t (pos (atom (literal-of l))) (eqb (v (l / 2) % 2) 1) set)
             (set-undue R t (negℤ (pos (atom (literal-of l)))) (eqb (v (l / 2) % 2) 1) (ap (standing t) (opposite-atom (pos (atom (literal-of l)))) ∙ set))
             ∙ ih
 
-    scan-all : first-due R t (places (entries-of words)) ≡ said-of (scan-by k u v test words)
-    scan-all = scan-told words (λ w l e. e)
-
   -- ---- the answer
 
   entries-told : keeps u limit (E v) ≡ true → first-due R t (places (entries-of words)) ≡ said-of (cond (keeps u limit (extreme-word k (not u) v c words)) Silent (entries-say k u limit (E v) v words))
+  unfolding scanned
   entries-told fine = go (keeps u limit (extreme-word k (not u) v c words)) refl (leaves-second k u && keeps u limit (second-word u v words)) refl
     where
       quiet : ((w l : ℕ) → Member w l words → v (l / 2) ≡ 0 → not (keeps u limit (turned w l)) ≡ false) → first-due R t (places (entries-of words)) ≡ m.silent
-      quiet right = scan-all fine (λ w. false) right ∙ ap said-of (scan-silent k u v words)
+      quiet right =
+          scan-told fine (λ ws. Silent) (λ w. false) refl (λ w. refl) (λ w l rest. sym (ap (λ x. cond x (Forced (wanted w l)) Silent) (and-false (eqb (v (l / 2)) 0)))) right words (λ w l e. e)
 
       told : (s : Bool) → (leaves-second k u && keeps u limit (second-word u v words)) ≡ s
           → (w l : ℕ) → Member w l words → v (l / 2) ≡ 0 → not (keeps u limit (turned w l)) ≡ (not s && turns-word k u limit (E v) w)
@@ -201,7 +183,8 @@ module _ {n : ℕ} {k : Kind} {bound c head : ℕ} {words : List ℕ} (sound : S
           → first-due R t (places (entries-of words)) ≡ said-of (cond x Silent (cond s Silent (scanned k u limit (E v) v words)))
       go true p s q = quiet (λ w l e o. turned-range e o p)
       go false p true q = quiet (told true q)
-      go false p false q = scan-all fine (turns-word k u limit (E v)) (told false q) ∙ ap said-of (scan-scanned k u v limit (E v) words)
+      go false p false q =
+          scan-told fine (scanned k u limit (E v) v) (turns-word k u limit (E v)) refl (λ w. refl) (λ w l rest. refl) (told false q) words (λ w l e. e)
 
   pub says-fixed : says R t ≡ said-of (body-says k u limit (E v) (extreme-word k (not u) v c words) v words)
   unfolding says

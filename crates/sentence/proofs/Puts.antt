@@ -33,31 +33,21 @@ opposite-of-even l e = rw (eq-eqb (l % 2) 0 e)
 opposite-of-odd : (l : ℕ) → l % 2 ≡ 1 → opposite-word l ≡ l - 1
 opposite-of-odd l e = rw (ne-eqb (l % 2) 0 (λ q. omega arith))
 
--- the opposite has the atom and the other sign
+-- the opposite has the atom and the other sign, and its opposite is the literal
 pub record Opposite (l o : ℕ) : Type 0 where
   pub real : 2 ≤ o
   pub atom : o / 2 ≡ l / 2
   pub sign : o % 2 + l % 2 ≡ 1
+  pub back : opposite-word o ≡ l
+  pub literal : literal-of o ≡ negℤ (literal-of l)
 
 pub opposite : (l : ℕ) → 2 ≤ l → Opposite l (opposite-word l)
 opposite l h =
     ⊎-elim
-    (λ (e : l % 2 ≡ 0). rw (opposite-of-even l e) (record { real = omega arith; atom = omega arith; sign = omega arith }))
-    (λ (e : l % 2 ≡ 1). rw (opposite-of-odd l e) (record { real = omega arith; atom = omega arith; sign = omega arith }))
-    (parity l)
-
-opposite-twice : (l : ℕ) → 2 ≤ l → opposite-word (opposite-word l) ≡ l
-opposite-twice l h =
-    ⊎-elim
-    (λ (e : l % 2 ≡ 0). let z : l + 1 - 1 ≡ l = omega arith in ap opposite-word (opposite-of-even l e) ∙ opposite-of-odd (l + 1) (omega arith) ∙ z)
-    (λ (e : l % 2 ≡ 1). let z : (l - 1) + 1 ≡ l = omega arith in ap opposite-word (opposite-of-odd l e) ∙ opposite-of-even (l - 1) (omega arith) ∙ z)
-    (parity l)
-
-pub opposite-literal : (l : ℕ) → 2 ≤ l → literal-of (opposite-word l) ≡ negℤ (literal-of l)
-opposite-literal l h =
-    ⊎-elim
-    (λ (e : l % 2 ≡ 0). ap literal-of (opposite-of-even l e) ∙ opposite-even l h e)
-    (λ (e : l % 2 ≡ 1). ap literal-of (opposite-of-odd l e) ∙ opposite-odd l h e)
+    (λ (e : l % 2 ≡ 0). let z : l + 1 - 1 ≡ l = omega arith in
+    rw (opposite-of-even l e) (record { real = omega arith; atom = omega arith; sign = omega arith; back = opposite-of-odd (l + 1) (omega arith) ∙ z; literal = opposite-even l h e }))
+    (λ (e : l % 2 ≡ 1). let z : (l - 1) + 1 ≡ l = omega arith in
+    rw (opposite-of-odd l e) (record { real = omega arith; atom = omega arith; sign = omega arith; back = opposite-of-even (l - 1) (omega arith) ∙ z; literal = opposite-odd l h e }))
     (parity l)
 
 -- ---- one value set
@@ -176,6 +166,6 @@ wanted-is u empty w l h = go (eqb x w) refl (sides u w empty)
         rw e (record { real = h; atom = refl; gives = own-reach u empty w l ∙ sym q; loses = opposite-reach u empty w l (opposite-word l) (opposite l h) ∙ sym near })
     go false e s =
         let q : (x ≡ empty) × (nearest-word u w empty ≡ w) = ⊎-elim (λ z. absurd (eqb-false x w e (z .0))) (λ z. z) s in
-        let back : reach-word u empty w l (1 + opposite-word (opposite-word l) % 2) ≡ w = rw (opposite-twice l h) (own-reach u empty w l) in
+        let back : reach-word u empty w l (1 + opposite-word (opposite-word l) % 2) ≡ w = rw (opposite l h .back) (own-reach u empty w l) in
         rw e
         (record { real = opposite l h .real; atom = opposite l h .atom; gives = opposite-reach u empty w l (opposite-word l) (opposite l h) ∙ sym (q .0); loses = back ∙ sym (q .1) })

@@ -31,23 +31,16 @@ idem : (u : Bool) (a : ℕ) → furthest-word u a a ≡ a
 idem true a = omega arith
 idem false a = omega arith
 
-twice : (u : Bool) (a b : ℕ) → furthest-word u a (furthest-word u a b) ≡ furthest-word u a b
-twice true a b = omega arith
-twice false a b = omega arith
-
 -- the second best does not pass the best
 behind : (u : Bool) (a s x : ℕ) → furthest-word u s a ≡ a → furthest-word u (furthest-word u s (nearest-word u a x)) (furthest-word u a x) ≡ furthest-word u a x
 behind true a s x h = omega arith
 behind false a s x h = omega arith
 
 -- the best so far stays the best
-stays : (u : Bool) (b z top : ℕ) → furthest-word u (furthest-word u b z) top ≡ top → top ≡ b → furthest-word u b z ≡ b
-stays true b z top h e = omega arith
-stays false b z top h e = omega arith
-
-lower : (u : Bool) (b s z : ℕ) → furthest-word u s b ≡ b → furthest-word u b z ≡ b → (furthest-word u s (nearest-word u b z) ≡ furthest-word u s z) × (furthest-word u (furthest-word u s z) b ≡ b)
-lower true b s z h e = (omega arith, omega arith)
-lower false b s z h e = (omega arith, omega arith)
+lower : (u : Bool) (b s z top : ℕ) → furthest-word u s b ≡ b → furthest-word u (furthest-word u b z) top ≡ top → top ≡ b
+    → (furthest-word u b z ≡ b) × (furthest-word u s (nearest-word u b z) ≡ furthest-word u s z) × (furthest-word u (furthest-word u s z) b ≡ b)
+lower true b s z top h p e = (omega arith, omega arith, omega arith)
+lower false b s z top h p e = (omega arith, omega arith, omega arith)
 
 -- x is the best of x and of the others, whose best the first ones do not pass
 hit : (u : Bool) (acc second x others : ℕ) → furthest-word u second acc ≡ acc → furthest-word u acc others ≡ others → x ≡ furthest-word u x others
@@ -79,10 +72,8 @@ module _ (u : Bool) where
   unfolding folded second-best
   runner b s [] h e = refl
   runner b s (z ∷ r) h e =
-      let next : furthest-word u b z ≡ b = stays u b z (best (furthest-word u b z) r) (passes (furthest-word u b z) r) (sym (ap (λ t. best t r) (combined-best u b z)) ∙ e) in
-      let l = lower u b s z h next in
-      rw (combined-best u s z, next, l .0)
-      (runner b (furthest-word u s z) r (l .1) (sym (ap (λ t. best t r) (combined-best u b z ∙ next)) ∙ e))
+      let l = lower u b s z (best (furthest-word u b z) r) h (passes (furthest-word u b z) r) (sym (ap (λ t. best t r) (combined-best u b z)) ∙ e) in
+      rw (combined-best u s z, l .0, l .1) (runner b (furthest-word u s z) r (l .2) (sym (ap (λ t. best t r) (combined-best u b z ∙ l .0)) ∙ e))
 
   pub best-swap : (acc second x y : ℕ) {xs ys : List ℕ} → Swapped x y xs ys → furthest-word u second acc ≡ acc
       → furthest-word u (cond (eqb x (best acc xs)) (second-best u acc second xs) (best acc xs)) y ≡ best acc ys
@@ -109,7 +100,7 @@ module _ (u : Bool) where
           let q = hit u acc second x M h (passes acc r) (eqb-true x E e ∙ furthest-is) in
           let s : S ≡ M =
           ap (λ t. second-best u (furthest-word u acc x) t r) (q .1)
-          ∙ runner (furthest-word u acc x) acc r (twice u acc x) (ap (λ t. best t r) (sym (combined-best u acc x)) ∙ furthest-is ∙ sym (q .2)) in
+          ∙ runner (furthest-word u acc x) acc r (sym (assoc u acc acc x) ∙ ap (λ z. furthest-word u z x) (idem u acc)) (ap (λ t. best t r) (sym (combined-best u acc x)) ∙ furthest-is ∙ sym (q .2)) in
           ap (λ t. furthest-word u t y) s ∙ sym target
       go false e = ap (λ t. furthest-word u t y) (furthest-is ∙ miss u x M (λ z. eqb-false x E e (z ∙ sym furthest-is))) ∙ sym target
   best-swap acc second x y (there {z} {xs} {ys} s) h =
