@@ -102,7 +102,10 @@ module _ {k : Kind} {area : List ℕ} {start count n first : ℕ} where
     module _ {least greatest none : ℕ} {e : EntryWords} {x : Extremes} (f : Foldings k area start count n first i least greatest)
         (s : EntryIs area start n i e) (q : none ≡ empty-word k) (r : ReachesAre none (e .weight) (e .literal) (e .value) x) where
       pub foldings-step : Steps k least (x .least) × Steps k greatest (x .greatest)
-      foldings-step = (rw (reach-is k false count s q (r .least-is)) (folding-steps false least (f .0)), rw (reach-is k true count s q (r .greatest-is)) (folding-steps true greatest (f .1)))
+      foldings-step = (
+        rw (reach-is k false count s q (r .least-is)) (folding-steps false least (f .0)),
+        rw (reach-is k true count s q (r .greatest-is)) (folding-steps true greatest (f .1)),
+      )
 
       pub foldings-next : {y : Extremes} → StepIs k least greatest (x .least) (x .greatest) y → Foldings k area start count n first (i + 1) (y .least) (y .greatest)
       foldings-next z = (

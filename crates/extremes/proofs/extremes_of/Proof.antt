@@ -19,7 +19,12 @@ returns c =
     let s = c .before .before .before .before .before in
     let e = s .kind-of .ensures ∙ ap kind-of (s .before .kind-at .ensures) in
     folds-extremes (s .kind-of .result) (s .before .before .before .pre) e
-    (rw (c .before .merged-at .ensures, c .before .before .entry-at .ensures, c .before .before .before .start-of .ensures, c .before .before .before .before .constant-at .ensures) at (c .folds-by-kind .ensures))
+    (rw (
+      c .before .merged-at .ensures,
+      c .before .before .entry-at .ensures,
+      c .before .before .before .start-of .ensures,
+      c .before .before .before .before .constant-at .ensures,
+    ) at (c .folds-by-kind .ensures))
 
 pub extremes-of-spec : {M : Type 1} → statement M
 extremes-of-spec =

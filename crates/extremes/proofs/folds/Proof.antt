@@ -22,12 +22,14 @@ loop-holds c = (omega arith, foldings-start (c .before .before .pre .1), c .empt
 step-requires : tie.Need-step-requires Inv-loop μ-loop
 step-requires c κs =
     let s = c .before .before .before in
-    foldings-step (c .before .before .loop-test .taken) (s .before .before .before .pre .0) (s .loop .inv .1) (c .before .entry-in .ensures) (s .loop .inv .2) (c .reaches .ensures)
+    foldings-step (c .before .before .loop-test .taken) (s .before .before .before .pre .0) (s .loop .inv .1) (c .before .entry-in .ensures) (s .loop .inv .2)
+    (c .reaches .ensures)
 
 loop-again : tie.Need-loop-again Inv-loop μ-loop
 loop-again c =
     let s = c .before .before .before .before in
-    let next = foldings-next (c .before .before .before .loop-test .taken) (s .before .before .before .pre .0) (s .loop .inv .1) (c .before .before .entry-in .ensures) (s .loop .inv .2) (c .before .reaches .ensures) (c .step .ensures) in
+    let next = foldings-next (c .before .before .before .loop-test .taken) (s .before .before .before .pre .0) (s .loop .inv .1)
+    (c .before .before .entry-in .ensures) (s .loop .inv .2) (c .before .reaches .ensures) (c .step .ensures) in
     (omega arith, next, s .loop .inv .2)
 
 returns : tie.Need-returns Inv-loop μ-loop

@@ -45,7 +45,8 @@ entry-turns-requires c κs = let s = c .before .before .loop .inv in scanning-tu
 loop-again : tie.Need-loop-again Inv-loop μ-loop Inv-sentences μ-sentences
 loop-again c =
     let s = c .before .before .before .before .loop .inv in
-    (omega arith, s .1, s .2, scanning-next (c .before .before .before .loop-test .taken) (s .2) (s .3) (c .before .before .entry-in .ensures) (c .before .entry-turns .ensures) (c .if1 .left))
+    let next = scanning-next (c .before .before .before .loop-test .taken) (s .2) (s .3) (c .before .before .entry-in .ensures) (c .before .entry-turns .ensures) (c .if1 .left) in
+    (omega arith, s .1, s .2, next)
 
 sentences-again : tie.Need-sentences-again Inv-loop μ-loop Inv-sentences μ-sentences
 sentences-again c =
@@ -75,17 +76,21 @@ returns c =
     subst (FoundIs (a .area .now) (a .n) (a .count)) (sym (i .1)) (found-nothing (a .area .now) (a .n) (a .count) (c .before .sentences .s) e (i .2))
 
 returns-2 : tie.Need-returns-2 Inv-loop μ-loop Inv-sentences μ-sentences
-returns-2 c = conflict-found (c .before .before .before .sentences-test .taken) (c .before .before .before .before .sentences .inv .2) (known-here (c .before .before .known-of .ensures) (c .enum-told2 .given .1))
+returns-2 c =
+    let k = c .before .before in
+    conflict-found (k .before .sentences-test .taken) (k .before .before .sentences .inv .2) (known-here (k .known-of .ensures) (c .enum-told2 .given .1))
 
 returns-3 : tie.Need-returns-3 Inv-loop μ-loop Inv-sentences μ-sentences
-returns-3 c = head-found (c .before .before .before .before .sentences-test .taken) (c .before .before .before .before .before .sentences .inv .2) (c .before .l .given .0 .0) (known-here (c .before .before .before .known-of .ensures) (c .before .l .given .1))
+returns-3 c =
+    let k = c .before .before .before in
+    head-found (k .before .sentences-test .taken) (k .before .before .sentences .inv .2) _ (known-here (k .known-of .ensures) (c .before .l .given .1))
 
 returns-4 : tie.Need-returns-4 Inv-loop μ-loop Inv-sentences μ-sentences
 returns-4 c =
     let i = c .before .before .before .before .before in
     let k = i .before .before .before .before in
-    entry-found (k .before .sentences-test .taken) (k .before .before .sentences .inv .2) (known-here (k .known-of .ensures) (i .before .before .body .given .1)) (c .before .before .before .before .loop-test .taken)
-    (i .loop .inv .3) (c .before .before .before .entry-in .ensures) (c .before .before .entry-turns .ensures) (c .before .if1 .taken) (c .entry-wanted .ensures)
+    entry-found (k .before .sentences-test .taken) (k .before .before .sentences .inv .2) (known-here (k .known-of .ensures) (i .before .before .body .given .1))
+    (c .before .before .before .before .loop-test .taken) (i .loop .inv .3) (c .before .before .before .entry-in .ensures) (c .before .before .entry-turns .ensures) (c .before .if1 .taken) (c .entry-wanted .ensures)
 
 pub find-spec : {M : Type 1} → statement M
 find-spec =

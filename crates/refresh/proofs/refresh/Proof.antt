@@ -22,7 +22,8 @@ refresh-one-requires c κs =
 loop-again : tie.Need-loop-again Inv-loop μ-loop
 loop-again c =
     let s = c .before .before .before .before .before in
-    (omega arith, one-passed (s .before .before .before .pre .1) (s .loop .inv .1) (c .before .before .before .before .loop-test .taken) (c .before .before .refresh-one .ensures))
+    let one = c .before .before .refresh-one .ensures in
+    (omega arith, one-passed (s .before .before .before .pre .1) (s .loop .inv .1) (c .before .before .before .before .loop-test .taken) one)
 
 returns : tie.Need-returns Inv-loop μ-loop
 returns c =

@@ -22,7 +22,8 @@ returns c = told-no (λ u. c .if1 .taken (rw (c .before .before .head-at .ensure
 shared-slice-read-if2 : tie.Need-shared-slice-read-if2 Inv-loop μ-loop
 shared-slice-read-if2 c =
     let s = c .before .before .before .before in
-    omega (arith, atom-in (s .before .before .before .before .before .before .before .pre) (s .before .entry-at .ensures) (s .merged-at .ensures) (c .before .before .loop-test .taken) (c .before .literal-in .ensures))
+    let p = s .before .before .before .before .before .before .before .pre in
+    omega (arith, atom-in p (s .before .entry-at .ensures) (s .merged-at .ensures) (c .before .before .loop-test .taken) (c .before .literal-in .ensures))
 
 returns-2 : tie.Need-returns-2 Inv-loop μ-loop
 returns-2 c = told-no (λ u. c .if2 .taken (search entry-untouched))
@@ -34,7 +35,8 @@ returns-3 : tie.Need-returns-3 Inv-loop μ-loop
 returns-3 c =
     let s = c .before .before in
     let p = s .before .before .before .before .before .before .before .pre in
-    told-yes (all-untouched p (s .before .entry-at .ensures) (s .merged-at .ensures) (s .before .before .before .before .head-at .ensures) (s .before .before .if1 .left) (λ j l. c .before .loop .inv .1 j (omega arith)))
+    told-yes (all-untouched p (s .before .entry-at .ensures) (s .merged-at .ensures) (s .before .before .before .before .head-at .ensures) (s .before .before .if1 .left)
+    (λ j l. c .before .loop .inv .1 j (omega arith)))
 
 pub touches-spec : {M : Type 1} → statement M
 touches-spec =

@@ -31,7 +31,8 @@ returns c =
 loop-again : tie.Need-loop-again Inv-loop μ-loop
 loop-again c =
     let s = c .before .before .before .before in
-    let next = scanning-next (c .before .before .before .loop-test .taken) (s .before .before .pre .0) (s .loop .inv .1) (c .before .before .entry-in .ensures) (c .before .entry-turns .ensures) (c .if1 .left) in
+    let next = scanning-next (c .before .before .before .loop-test .taken) (s .before .before .pre .0) (s .loop .inv .1) (c .before .before .entry-in .ensures)
+    (c .before .entry-turns .ensures) (c .if1 .left) in
     (omega arith, next)
 
 returns-2 : tie.Need-returns-2 Inv-loop μ-loop

@@ -30,8 +30,8 @@ loop-holds c =
 loop-again : tie.Need-loop-again Inv-loop μ-loop
 loop-again c =
     let s = c .before .before .before .before .before .before in
-    let next = seconds-next (c .before .before .before .before .before .loop-test .taken) (s .before .before .before .pre) (s .loop .inv .1) (c .before .before .before .before .entry-in .ensures)
-    (s .loop .inv .2) (c .before .before .before .reach .ensures) (c .before .before .nearest .ensures) (c .before .furthest .ensures) (c .furthest2 .ensures) in
+    let next = seconds-next (c .before .before .before .before .before .loop-test .taken) (s .before .before .before .pre) (s .loop .inv .1)
+    (c .before .before .before .before .entry-in .ensures) (s .loop .inv .2) (c .before .before .before .reach .ensures) (c .before .before .nearest .ensures) (c .before .furthest .ensures) (c .furthest2 .ensures) in
     (omega arith, next, s .loop .inv .2)
 
 returns : tie.Need-returns Inv-loop μ-loop
