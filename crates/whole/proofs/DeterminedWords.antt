@@ -15,7 +15,7 @@ use Rattle.meaning.specs.Computed.{extreme}
 use Rattle.book.specs.Rows.{Row, trail}
 use Rattle.area.specs.Layout.{word, literal-at, place-at, rows-from, record-at, pending-at, before-at, written-at, entry-at, rule-at, entries-before}
 use Rattle.trail_check.proofs.Rows.{atom-of, atom-low}
-use Rattle.trail_check.proofs.Same.{rows-same, same-trail}
+use Rattle.trail_check.proofs.Same.{moved, rows-same, same-trail}
 use Rattle.theory_check.proofs.Places.{placed}
 use Rattle.theory_check.proofs.Same.{SameWords, same-sentence}
 use Rattle.whole.specs.Parts.{Held}
@@ -60,13 +60,9 @@ module _ (lim : Limits) (w w′ : List ℕ) (n S len level level′ : ℕ) (h : 
 
   -- ---- all sentences
 
-  -- a word at i, reached as at + k
-  moved : (i at k : ℕ) → at + k ≡ i → word w (at + k) ≡ word w′ (at + k) → word w i ≡ word w′ i
-  moved i at k e q = ap {A = ℕ} (word w) (sym e) ∙ q ∙ ap {A = ℕ} (word w′) e
-
   records-same : (i : ℕ) → 4 * n ≤ i → i < 4 * n + 8 * S → word w i ≡ word w′ i
   records-same i l m = let s = (i - 4 * n) / 8 in
-      moved i (record-at n s) ((i - 4 * n) % 8) (omega arith) (sentence-same s (omega arith) .own ((i - 4 * n) % 8) (omega arith))
+      moved w w′ i (record-at n s) ((i - 4 * n) % 8) (omega arith) (sentence-same s (omega arith) .own ((i - 4 * n) % 8) (omega arith))
 
   -- the rooms of the first k sentences
   rooms-same : (k : ℕ) → k ≤ S → (i : ℕ) → 4 * n + 8 * S ≤ i → i < 4 * n + 8 * S + 2 * entries-before w n k → word w i ≡ word w′ i
@@ -74,7 +70,7 @@ module _ (lim : Limits) (w w′ : List ℕ) (n S len level level′ : ℕ) (h : 
   rooms-same zero f i l m = let b : ⊥ = omega arith in absurd b
   rooms-same (suc k) f i l m = let at = 4 * n + 8 * S + 2 * entries-before w n k in
       let e : before-at w (record-at n k) ≡ entries-before w n k = h .places .each k f .place in ⊎-elim
-      (λ (q : at ≤ i). moved i (entry-at w n S (record-at n k)) (i - at) (omega arith) (sentence-same k f .entries (i - at) (omega arith)))
+      (λ (q : at ≤ i). moved w w′ i (entry-at w n S (record-at n k)) (i - at) (omega arith) (sentence-same k f .entries (i - at) (omega arith)))
       (λ (q : i < at). rooms-same k (omega arith) i l q) (cases i at)
 
   pub words-same : (i : ℕ) → 1 ≤ i → i < 4 * n + 8 * S + 2 * entries-before w n S → word w i ≡ word w′ i

@@ -27,19 +27,13 @@ unmixed-zero count x n = absurd n
 unmixed-zero maximum x n = refl
 unmixed-zero minimum x n = refl
 
-whole-turned : (k : Kind) (written : ℕ) (e : Entry) → T (mixes k) → WeightWhole k written e → (e .literal ≡ pos (place e)) × (¬ (e .weight ≡ pos 0))
-whole-turned sum written e t h = (h .itself, h .something)
-whole-turned product written e t h = absurd t
-whole-turned count written e t h = (h .itself, h .something)
-whole-turned maximum written e t h = absurd t
-whole-turned minimum written e t h = absurd t
-
-whole-weighable : (k : Kind) (written : ℕ) (e : Entry) → WeightWhole k written e → T (weighable k (e .weight))
-whole-weighable sum written e h = tt
-whole-weighable product written e h = h .low
-whole-weighable count written e h = tt
-whole-weighable maximum written e h = tt
-whole-weighable minimum written e h = tt
+whole-weight : (k : Kind) (written : ℕ) (e : Entry) → WeightWhole k written e
+    → (T (mixes k) → (e .literal ≡ pos (place e)) × (¬ (e .weight ≡ pos 0))) × T (weighable k (e .weight))
+whole-weight sum written e h = ((λ t. (h .itself, h .something)), tt)
+whole-weight product written e h = ((λ t. absurd t), h .low)
+whole-weight count written e h = ((λ t. (h .itself, h .something)), tt)
+whole-weight maximum written e h = ((λ t. absurd t), tt)
+whole-weight minimum written e h = ((λ t. absurd t), tt)
 
 once-distinct : (es : List Entry) → Once es → Distinct es
 once-distinct [] h = tt
@@ -56,8 +50,8 @@ module _ (lim : Limits) (n : ℕ) (r : Rule) (h : RuleWhole lim n r) where
   whole-merged : (T (not (mixes (r .kind))) → r .set .constant ≡ pos 0) → IsMerged r
   whole-merged zero-constant = record {
     unmixed = zero-constant;
-    turned = λ t. entries-have (λ e. (e .literal ≡ pos (place e)) × (¬ (e .weight ≡ pos 0))) (λ e x. whole-turned (r .kind) (r .written) e t (x .weighs));
-    weights = entries-have (λ e. T (weighable (r .kind) (e .weight))) (λ e x. whole-weighable (r .kind) (r .written) e (x .weighs));
+    turned = λ t. entries-have (λ e. (e .literal ≡ pos (place e)) × (¬ (e .weight ≡ pos 0))) (λ e x. whole-weight (r .kind) (r .written) e (x .weighs) .0 t);
+    weights = entries-have (λ e. T (weighable (r .kind) (e .weight))) (λ e x. whole-weight (r .kind) (r .written) e (x .weighs) .1);
     literals = entries-have (λ e. 1 ≤ place e) (λ e x. x .atom-low);
     distinct = once-distinct (r .set .entries) (h .once);
     headless = entries-have (λ e. ¬ (place e ≡ r .head)) (λ e x. x .other);
@@ -77,7 +71,7 @@ module _ (lim : Limits) (n : ℕ) (r : Rule) (h : RuleWhole lim n r) where
     admissible = record {
       literals = entries-have (λ e. 1 ≤ place e) (λ e x. x .atom-low);
       weights = entries-have (λ e. T (weighable (merged-kind (r .kind)) (e .weight)))
-          (λ e x. weighable-merged (r .kind) (e .weight) (whole-weighable (r .kind) (r .written) e (x .weighs)));
+          (λ e x. weighable-merged (r .kind) (e .weight) (whole-weight (r .kind) (r .written) e (x .weighs) .1));
       headless = entries-have (λ e. ¬ (place e ≡ r .head)) (λ e x. x .other);
       signs = λ _. once-signed (r .set .entries) (h .once);
     };

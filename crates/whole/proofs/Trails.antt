@@ -43,9 +43,7 @@ module _ (w w′ : List ℕ) (n : ℕ) (front : (i : ℕ) → i < 4 * n → word
   mark-stays i h = front (3 * n + i) (omega arith)
 
   row-stays : (i : ℕ) → i < n → row-at w′ n i ≡ row-at w n i
-  row-stays i h =
-      ap (λ (x : ℕ). record { literal = literal-of x; level = mark-at w′ n i % 65536; reason = mark-at w′ n i / 65536 % 65536 }) (literal-stays i h)
-      ∙ ap (λ (x : ℕ). record { literal = literal-of (literal-at w n i); level = x % 65536; reason = x / 65536 % 65536 }) (mark-stays i h)
+  row-stays i h = rw (literal-stays i h, mark-stays i h)
 
   pub rows-stay : (k : ℕ) → k ≤ n → rows-from w′ n k ≡ rows-from w n k
   unfolding rows-from

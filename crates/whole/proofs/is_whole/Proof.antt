@@ -33,31 +33,26 @@ held : (c : tie.After-sentences-of) → let s = c .before .before .before .befor
     → Held (s .args .lim) (s .args .area .now) (c .before .atoms-of .result) (c .sentences-of .result) (s .args .len) (s .args .level)
 held c = parts-at _ _ _ _ _ _ (sym (c .before .atoms-of .ensures)) (sym (c .sentences-of .ensures))
 
-returns : tie.Need-returns
-returns c = told-no (λ h. denied (c .before .header-ok .ensures) (c .if1 .taken) (parts _ _ _ _ h .header))
-
 trail-ok-requires : tie.Need-trail-ok-requires
-trail-ok-requires c κs = let h = header (c .before .before) in (omega arith, omega arith, omega arith, omega arith)
+trail-ok-requires c κs = let h = header (c .before .before) in search arith
 
 returns-2 : tie.Need-returns-2
 returns-2 c = told-no (λ h. denied (c .before .trail-ok .ensures) (c .if2 .taken) (held (c .before .before) h .trail-ok))
 
 places-ok-requires : tie.Need-places-ok-requires
-places-ok-requires c κs = let h = header (c .before .before .before .before) in (c .before .before .before .before .before .before .before .pre, omega arith, omega arith, omega arith)
+places-ok-requires c κs = let h = header (c .before .before .before .before) in search arith
 
 returns-3 : tie.Need-returns-3
 returns-3 c = told-no (λ h. denied (c .before .places-ok .ensures) (c .if3 .taken) (held (c .before .before .before .before) h .places))
 
 sentences-ok-requires : tie.Need-sentences-ok-requires
-sentences-ok-requires c κs = let h = header (c .before .before .before .before .before .before) in
-    record { fitting = c .before .before .before .before .before .before .before .before .before .pre; atoms-low = omega arith; atoms-high = omega arith; sentences = omega arith; places = places c }
+sentences-ok-requires c κs = let h = header (c .before .before .before .before .before .before) in let p = places c in search arith
 
 returns-4 : tie.Need-returns-4
 returns-4 c = told-no (λ h. denied (sentences (c .before)) (c .if4 .taken) (held (c .before .before .before .before .before .before) h .sentences))
 
 reasons-ok-requires : tie.Need-reasons-ok-requires
-reasons-ok-requires c κs = let h = header (c .before .before .before .before .before .before .before .before) in
-    record { fitting = c .before .before .before .before .before .before .before .before .before .before .before .pre; atoms-low = omega arith; atoms-high = omega arith; sentences = omega arith; few = omega arith; places = places (c .before .before); literals = literals (trail-right (c .before .before .before .before)) }
+reasons-ok-requires c κs = let h = header (c .before .before .before .before .before .before .before .before) in let p = places (c .before .before) in let l = literals (trail-right (c .before .before .before .before)) in search arith
 
 returns-5 : tie.Need-returns-5
 returns-5 c = told-same (c .reasons-ok .ensures)
@@ -69,5 +64,6 @@ pub is-whole-spec : {M : Type 1} → statement M
 is-whole-spec =
     tie.close
     (tie.spec
-    (λ c κs. search needs) returns (λ c κs. omega (arith, header c)) (λ c κs. omega (arith, header (c .before))) trail-ok-requires returns-2
-    places-ok-requires returns-3 sentences-ok-requires returns-4 reasons-ok-requires returns-5)
+    (λ c κs. search needs) (λ c. told-no (λ h. denied (c .before .header-ok .ensures) (c .if1 .taken) (parts _ _ _ _ h .header)))
+    (λ c κs. omega (arith, header c)) (λ c κs. omega (arith, header (c .before))) trail-ok-requires returns-2 places-ok-requires returns-3
+    sentences-ok-requires returns-4 reasons-ok-requires returns-5)

@@ -6,9 +6,6 @@ use Rattle.whole.proofs.CheckMatching.{least-differs, greatest-differs,
 use Rattle.whole.proofs.matching.Statement.{statement}
 use Rattle.whole.proofs.matching.Tie as tie
 
-returns-2 : tie.Need-returns-2
-returns-2 c = greatest-differs (c .before .before .before .before .extremes-of .ensures) (λ e. omega arith)
-
 returns-3 : tie.Need-returns-3
 returns-3 c = marked (c .before .before .before .before .before .before .extremes-of .ensures) (omega arith) (omega arith) (sym (c .before .pending-at .ensures) ∙ c .if3 .taken)
 
@@ -29,5 +26,6 @@ matching-spec =
     tie.close
     (tie.spec
     (λ c κs. search needs) (λ c κs. search needs) (λ c. least-differs (c .before .before .extremes-of .ensures) (λ e. omega arith))
-    (λ c κs. search needs) returns-2 (λ c κs. search needs) returns-3 (λ c κs. search needs) returns-4 (λ c κs. search needs) (λ c. search needs)
-    (λ c. search needs) (λ c. search needs) returns-5 returns-6 returns-7)
+    (λ c κs. search needs) (λ c. greatest-differs (c .before .before .before .before .extremes-of .ensures) (λ e. omega arith)) (λ c κs. search needs)
+    returns-3 (λ c κs. search needs) returns-4 (λ c κs. search needs) (λ c. search needs) (λ c. search needs) (λ c. search needs) returns-5 returns-6
+    returns-7)

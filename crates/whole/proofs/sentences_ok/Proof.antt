@@ -35,13 +35,11 @@ returns-2 c = matching-wrong (c .before .before .before .before .before .before 
 loop-again : tie.Need-loop-again Inv-loop μ-loop
 loop-again c = one-passed (c .before .before .before .before .before .before .before .before .before .pre) (c .before .before .before .before .before .before .before .loop .s) (c .before .before .before .before .before .before .loop-test .taken) _ _ (c .before .before .before .before .before .before .before .loop .inv) (c .before .before .before .before .sentence-ok .ensures .stamps) (granted (c .before .before .before .before .sentence-ok .ensures .tells) (c .before .before .if1 .left)) (c .before .matching .ensures) (c .if2 .left)
 
-returns-3 : tie.Need-returns-3 Inv-loop μ-loop
-returns-3 c = all-passed (c .before .before .before .pre) (c .before .loop .s) _ (c .before .loop .inv) (omega arith)
-
 pub sentences-ok-spec : {M : Type 1} → statement M
 sentences-ok-spec =
     tie.close
     (tie.spec
     Inv-loop μ-loop (λ c. none-passed (c .before .pre)) (λ c. omega (arith, own-inside c)) (λ c. omega (arith, own-inside c))
     (λ c. omega (arith, own-inside c)) (λ c. sym (c .before .before .loop .inv .stamps .size)) (λ c. search needs) sentence-ok-requires returns
-    matching-requires returns-2 (λ c. search needs) (λ c. search needs) loop-again returns-3)
+    matching-requires returns-2 (λ c. search needs) (λ c. search needs) loop-again
+    (λ c. all-passed (c .before .before .before .pre) (c .before .loop .s) _ (c .before .loop .inv) (omega arith)))
