@@ -17,8 +17,7 @@ use Rattle.theory_check.proofs.Scope.{scope-entry, scope-past}
 use Rattle.reason_check.specs.Reasons.{Reasonable, ScopeAsked, HasAtom}
 
 pub reason-inside : (lim : Limits) (w : List ℕ) (n S len r : ℕ) → Reasonable lim w n S len → ¬ (r ≡ 0) → r ≤ S → ScopeAsked w n S (4 * n + 8 * (r - 1))
-reason-inside lim w n S len r q z l =
-    let p = placed lim w n S (r - 1) (q .places) (omega arith) in
+reason-inside lim w n S len r q z l = let p = placed lim w n S (r - 1) (q .places) (omega arith) in
     record { atoms = omega (arith, q .atoms-high, q .fitting .atoms); sentences = omega (arith, q .sentences, q .fitting .sentences); own = p .own; room = omega (arith, p .room, p .merged) }
 
 module _ (w : List ℕ) (n S b : ℕ) where

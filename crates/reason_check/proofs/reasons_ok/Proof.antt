@@ -14,23 +14,15 @@ Inv-loop area lim n count len i₀ i = (i ≤ len) × ((k : ℕ) → k < i → R
 abbrev μ-loop : tie.MeasureT-loop
 μ-loop area lim n count len i₀ i = len - i
 
-loop-holds : tie.Need-loop-holds Inv-loop μ-loop
-loop-holds c = (omega arith, below-none _)
-
-reason-ok-requires : tie.Need-reason-ok-requires Inv-loop μ-loop
-reason-ok-requires c κs = (c .before .before .before .pre, c .loop-test .taken)
-
 returns : tie.Need-returns Inv-loop μ-loop
 returns c = told-no (λ h. denied (c .before .reason-ok .ensures) (c .if1 .taken) (h (c .before .before .before .loop .i) (omega arith)))
 
 loop-again : tie.Need-loop-again Inv-loop μ-loop
 loop-again c = (omega arith, below-more _ _ (c .before .before .before .loop .inv .1) (granted (c .before .reason-ok .ensures) (c .if1 .left)))
 
-returns-2 : tie.Need-returns-2 Inv-loop μ-loop
-returns-2 c = told-yes (λ k l. c .before .loop .inv .1 k (omega arith))
-
 pub reasons-ok-spec : {M : Type 1} → statement M
 reasons-ok-spec =
     tie.close
     (tie.spec
-    Inv-loop μ-loop loop-holds reason-ok-requires returns (λ c. search needs) (λ c. search needs) loop-again returns-2)
+    Inv-loop μ-loop (λ c. (omega arith, below-none _)) (λ c κs. (c .before .before .before .pre, c .loop-test .taken)) returns (λ c. search needs)
+    (λ c. search needs) loop-again (λ c. told-yes (λ k l. c .before .loop .inv .1 k (omega arith))))
