@@ -54,7 +54,7 @@ fn put_rows(page: &mut [u8], at: usize, area: &[u64], n: usize, rows: usize) -> 
     let mut place = at;
     let mut i: usize = 0;
     while i < rows {
-        let literal = reports::literal_of(area[2 * n + i]);
+        let literal = literals::literal_of(area[2 * n + i]);
         let mark = area[3 * n + i];
         place = put_row(page, place, literal, mark % 65536, mark / 65536 % 65536);
         i += 1;
