@@ -24,7 +24,8 @@ use Rattle.calls.specs.Calls.{area-state}
 use Rattle.columns.proofs.Clauses.{told-atom}
 use Rattle.load.proofs.Base.{base-fits}
 use Rattle.trail.specs.Ready.{Usable}
-use Rattle.trail.proofs.Giving.{give-zero, give-high, give-taken, has-effect}
+use Rattle.literals.proofs.Atoms.{unknown-zero, unknown-high}
+use Rattle.trail.proofs.Giving.{give-strange as unknown-refused, give-taken, has-effect}
 use Rattle.levels.proofs.Replies.{open-refused, open-passes, take-back-refused, take-back-passes}
 use Rattle.search.specs.Search.{AllKnown}
 use Rattle.search.proofs.Answering.{reply-known, acts-strange}
@@ -121,10 +122,10 @@ module _ {w : List ℕ} {n k : ℕ} {b : Bool} (t : Tells b (Whole base w (count
         size = told-atom l s is
 
         pub give-none : a ≡ 0 → ToldShort w (counters n k) (give l) 2 10
-        give-none z = let i = size in short-refused w _ _ 2 h 10 (omega arith) (give-zero base w _ u l (omega arith) .answer .told h)
+        give-none z = let i = size in short-refused w _ _ 2 h 10 (omega arith) (unknown-refused base w _ u l (unknown-zero (atoms-of w) l (omega arith)) .answer .told h)
 
         pub give-strange : m < a → ToldShort w (counters n k) (give l) 2 10
-        give-strange z = let i = size in short-refused w _ _ 2 h 10 (omega arith) (give-high base w _ u l (omega arith) .answer .told h)
+        give-strange z = let i = size in short-refused w _ _ 2 h 10 (omega arith) (unknown-refused base w _ u l (unknown-high (atoms-of w) l (omega arith)) .answer .told h)
 
         module _ {v : ℕ} (value : v ≡ value-at w m a) (low : 1 ≤ a) (high : a ≤ m) where
           here : v ≡ value-at w (atoms-of w) (atom l)
