@@ -10,14 +10,14 @@ use Rattle.meaning.specs.Computed.{gather, standing, extreme, first-due, says}
 use Rattle.meaning.proofs.Checks.{every, admissible}
 use Rattle.book.specs.Rows.{up-to, pick, causes, row-of, numbered, any, comes-from, in-order, flat}
 use Rattle.book.specs.Table.{speech, run, trying, reply}
-use Rattle.book.specs.Book.{rules-of, judged-all, fresh, answers}
+use Rattle.book.specs.Book.{computed, fresh, answers}
 use Rattle.book.specs.Examples.{Story, calls, expected, stories, Rightly, printings}
 
 abbrev pub well-formed : ℕ → Sentence → Bool
 well-formed n s = leb 1 (s .head) && (leb (s .head) n && (every (λ e. leb (place e) n) (s .entries) && admissible s))
 
 abbrev pub Computes : Story → Type 0
-Computes x = answers (x .limits) (judged-all (rules-of (x .sentences))) (fresh (x .atoms) (x .sentences)) (calls (x .turns)) ≡ expected (x .turns)
+Computes x = answers (x .limits) computed (fresh (x .atoms) (x .sentences)) (calls (x .turns)) ≡ expected (x .turns)
 
 pub stories-compute : Each Computes stories
 unfolding turned-all freed-all put collect nonzero gather standing extreme first-due says up-to pick causes row-of numbered any comes-from in-order flat speech run trying reply answers

@@ -10,10 +10,10 @@ use Rattle.meaning.proofs.Gather.{each-map}
 use Rattle.meaning.proofs.Verdicts.{and-first, and-second}
 use Rattle.meaning.proofs.Checks.{every, admissible}
 use Rattle.meaning.proofs.Tests.{every-is, admissible-is}
-use Rattle.book.specs.Book.{rules-of, judged-all, fresh, WellFormed}
+use Rattle.book.specs.Book.{computed, fresh, WellFormed}
 use Rattle.book.specs.Examples.{Story, Told, calls, stories}
 use Rattle.book.proofs.Checks.{well-formed, Computes, stories-compute, stories-well-formed}
-use Rattle.book.proofs.Judged.{all-judged, all-scoped}
+use Rattle.book.proofs.Judged.{computed-right}
 use Rattle.book.proofs.Same.{answers-same}
 
 well-formed-is : (n : ℕ) (s : Sentence) → T (well-formed n s) → WellFormed n s
@@ -33,9 +33,7 @@ well-formed-is n s h =
     rest s = leb (s .head) n && last s
 
 told : (x : Story) → Each (WellFormed (x .atoms)) (x .sentences) → Computes x → Told x
-told x w c js m =
-    answers-same (x .limits) (fresh (x .atoms) (x .sentences)) js (judged-all (rules-of (x .sentences))) (all-scoped (x .atoms) (x .sentences) w) m
-    (all-judged (x .atoms) (x .sentences) w) tt (calls (x .turns)) ∙ c
+told x w c j m = answers-same (x .limits) j computed m computed-right (fresh (x .atoms) (x .sentences)) w tt (calls (x .turns)) ∙ c
 
 pub stories-told : Each Told stories
 stories-told =

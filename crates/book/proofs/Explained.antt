@@ -11,11 +11,10 @@ use Rattle.meaning.specs.Meaning.{Assignment, atom, holds, same, Sentence, Agre
 use Rattle.meaning.specs.Merge.{rule-of, scope}
 use Rattle.book.specs.Rows.{Row, trail, causes, Standpoint, row-of, numbered, explanation, conflict-explanation}
 use Rattle.book.specs.Table.{Judged, scopes}
-use Rattle.book.specs.Book.{JudgesAll}
 use Rattle.meaning.proofs.Trails.{opposite-holds}
 use Rattle.meaning.proofs.Members.{same→eq, eq→same}
 use Rattle.book.specs.Means.{IsNumber, Among, Some, EntailedBy, AllFalse, Explains, ExplainsConflict}
-use Rattle.book.specs.Sound.{In, Reasoned, Sits, Sound, BlindOutside, Blind}
+use Rattle.book.specs.Sound.{JudgesAll, none, more, In, Reasoned, Sits, Sound, BlindOutside, Blind}
 use Rattle.book.proofs.Number.{numbered-each}
 use Rattle.book.proofs.Sound.{consistent}
 use Rattle.book.proofs.Blind.{causes-from, forced-by-causes, conflict-by-causes}
@@ -87,11 +86,10 @@ module _ (n : ℕ) (ss : List Sentence) where
 
 pub scope-numbered : (k : ℕ) (ss : List Sentence) (js : List Judged) (s : Sentence) → JudgesAll ss js → IsNumber k ss s → numbered [] k (scopes js) ≡ scope (rule-of s)
 unfolding numbered
-scope-numbered k [] js s m h = absurd h
-scope-numbered zero (x ∷ ss) js s m h = absurd h
-scope-numbered (suc k) (x ∷ ss) [] s m h = absurd m
-scope-numbered (suc zero) (x ∷ ss) (j ∷ js) s m h = m .0 .scope-is ∙ ap (λ y. scope (rule-of y)) h
-scope-numbered (suc (suc k)) (x ∷ ss) (j ∷ js) s m h = scope-numbered (suc k) ss js s (m .1) h
+scope-numbered k [] [] s none h = absurd h
+scope-numbered zero (x ∷ ss) (j ∷ js) s (more p m) h = absurd h
+scope-numbered (suc zero) (x ∷ ss) (j ∷ js) s (more p m) h = p .scope-is ∙ ap (λ y. scope (rule-of y)) h
+scope-numbered (suc (suc k)) (x ∷ ss) (j ∷ js) s (more p m) h = scope-numbered (suc k) ss js s m h
 
 -- ---- explanations
 

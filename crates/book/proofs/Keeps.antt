@@ -2,7 +2,7 @@
 -- and so does a search, whose literals are all of atoms and are given only where they are open.
 use mathlib.Core.Path.{_≡_, refl}
 use mathlib.Core.Bool.{Bool, true, false, not, cond, _&&_}
-use mathlib.Core.List.{List, [], _∷_}
+use mathlib.Core.List.{List, [], _∷_, map}
 use Prim.Native.Nat.{ℕ, zero, suc, _+_}
 use native.Mathlib.Omega.{arith}
 use lib.IntN.{ℤ}
@@ -10,10 +10,11 @@ use lib.Dec.{T, T-not, leb→le, leb}
 use Rattle.meaning.specs.Meaning.{atom, Sentence, Each}
 use Rattle.types.specs.declared.Limits.{Limits}
 use Rattle.book.specs.Rows.{Row, row, trail, any}
-use Rattle.book.specs.Table.{Judged, State, Outcome, Step, give, open-level, take-back, propagate, search, Call, step, report, Speech, nothing, objects, derives, speech, Stop, run, propagated, no-atom, on-trail, step-refusals, refusals, End, end, apart, put-on, propagating, following, turning, tried, trying, searching, step-effect, effect}
-use Rattle.book.specs.Book.{JudgesAll, Book, Asked, book-state, turn, after, played}
+use Rattle.book.specs.Table.{Judged, State, Outcome, Step, give, open-level, take-back, propagate, search, Call, step, report, Speech, nothing, objects, derives, speech, Stop, run, propagated, no-atom, on-trail, step-refusals, refusals, End, end, apart, put-on, propagating, following, turning, tried, trying, searching, step-effect, effect, reply}
+use Rattle.book.specs.Book.{WellFormed, Judgement, Judging, Book, need, Asked, fits, turned, played, reach}
+use Rattle.book.proofs.Judged.{all-judging, all-scoped}
 use Rattle.book.proofs.Speech.{derived-of}
-use Rattle.book.specs.Sound.{Within, Scoped, Sound, SoundBook}
+use Rattle.book.specs.Sound.{JudgesAll, Within, Scoped, Sound, SoundBook}
 use Rattle.book.proofs.Sound.{consistent, sound-higher, up-to-sound, give-sound, derive-sound}
 use Rattle.book.proofs.Tests.{on-tells, both-told, none-first, none-rest, Passed, reply-is}
 
@@ -86,31 +87,49 @@ module _ (x : Bool) (n top : ℕ) (ss : List Sentence) (js : List Judged) (w : E
   pub searching-sound : (ls : List ℤ) (v : ℕ) (rs : List Row) → T (not (any (no-atom (here v rs)) ls)) → Sound n ss v rs → Ends (searching (here v rs) ls)
   searching-sound ls v rs t h = turning-sound 0 0 v rs (λ p e. trying p e 0 ls) h (λ rs′ e k. trying-sound ls e 0 v rs′ t k)
 
-module _ (lim : Limits) (js : List Judged) (b : Book) (w : Each (Scoped (b .atoms)) (b .sentences)) (m : JudgesAll (b .sentences) js) (h : SoundBook b) (a : Asked) where
-  abbrev q : State
-  q = book-state lim js b (a .size) (a .counters)
+  -- ---- each call
 
-  abbrev Good : Outcome → Type 0
-  Good o = Sound (b .atoms) (b .sentences) (o .level) (o .rows)
+  module _ (v : ℕ) (rs : List Row) (h : Sound n ss v rs) where
+    abbrev Good : Outcome → Type 0
+    Good o = Sound n ss (o .level) (o .rows)
 
-  step-sound : (x : Step) → Passed (step-refusals q x) → Good (step-effect q x)
-  step-sound (give l) p =
-      give-sound (b .atoms) (b .sentences) (b .level) (b .rows) l (atom-told (b .atoms) l (p .0))
-      (λ o. T-not (on-trail q (atom l)) (p .1 .0) (on-tells (atom l) (trail (b .rows)) o)) h
-  step-sound open-level p = sound-higher (b .atoms) (b .sentences) (b .level) (suc (b .level)) (b .rows) (omega arith) h
-  step-sound (take-back k) p = up-to-sound (b .atoms) (b .sentences) (b .level) k (b .rows) h
-  step-sound propagate p = run-sound (b .atoms) (b .sentences) js w m (b .level) (suc (b .atoms)) (b .rows) h
-  step-sound (search ls) p = searching-sound (q .broken) (b .atoms) (q .levels) (b .sentences) js w m ls (b .level) (b .rows) (p .0) h
+    step-sound : (y : Step) → Passed (step-refusals (here v rs) y) → Good (step-effect (here v rs) y)
+    step-sound (give l) p =
+        give-sound n ss v rs l (atom-told n l (p .0)) (λ o. T-not (on-trail (here v rs) (atom l)) (p .1 .0) (on-tells (atom l) (trail rs) o)) h
+    step-sound open-level p = sound-higher n ss v (suc v) rs (omega arith) h
+    step-sound (take-back k) p = up-to-sound n ss v k rs h
+    step-sound propagate p = propagated-sound v rs h
+    step-sound (search ls) p = searching-sound ls v rs (p .0) h
 
-  effect-sound : (x : Call) → Passed (refusals q x) → Good (effect q x)
-  effect-sound (step x) p = step-sound x p
-  effect-sound (report x room) p = h
+    effect-sound : (y : Call) → Passed (refusals (here v rs) y) → Good (effect (here v rs) y)
+    effect-sound (step y) p = step-sound y p
+    effect-sound (report y room) p = h
 
-  pub turn-sound : Sound (b .atoms) (b .sentences) (turn lim js b a .level) (turn lim js b a .rows)
-  turn-sound = reply-is Good q (a .call) (λ c n. h) (effect-sound (a .call))
+    pub reply-sound : (y : Call) → Good (reply (here v rs) y)
+    reply-sound y = reply-is Good (here v rs) y (λ c k. h) (effect-sound y)
 
--- a book that was just loaded is sound, and so is every book that calls leave
-pub played-sound : (lim : Limits) (js : List Judged) (b : Book) → Each (Scoped (b .atoms)) (b .sentences) → JudgesAll (b .sentences) js → SoundBook b → (xs : List Asked) → SoundBook (played lim js b xs)
-unfolding played
-played-sound lim js b w m h [] = h
-played-sound lim js b w m h (x ∷ xs) = played-sound lim js (after b (turn lim js b x)) w m (turn-sound lim js b w m h x) xs
+-- ---- a book that was just loaded is sound, and so is every book that calls leave
+
+module _ (lim : Limits) (j : Judgement) (m : Judging j) where
+  pub turn-sound : (b : Book) → Each (WellFormed (b .atoms)) (b .sentences) → SoundBook b → (a : Asked) → SoundBook (turned lim j b a)
+  turn-sound b w h a =
+      reply-sound (not (fits b (a .size) (a .counters))) (b .atoms) (lim .levels) (b .sentences) (map j (b .sentences)) (all-scoped (b .atoms) (b .sentences) w)
+      (all-judging (b .atoms) j m (b .sentences) w) (b .level) (b .rows) h (a .call)
+
+  pub played-sound : (b : Book) → Each (WellFormed (b .atoms)) (b .sentences) → SoundBook b → (xs : List Asked) → SoundBook (played lim j b xs)
+  unfolding played
+  played-sound b w h [] = h
+  played-sound b w h (x ∷ xs) = played-sound (turned lim j b x) w (turn-sound b w h x) xs
+
+-- ---- these calls leave the sentences as they are, so that the book needs as many words as at first
+
+module _ (lim : Limits) (j : Judgement) where
+  pub played-sentences : (b : Book) (xs : List Asked) → played lim j b xs .sentences ≡ b .sentences
+  unfolding played
+  played-sentences b [] = refl
+  played-sentences b (x ∷ xs) = played-sentences (turned lim j b x) xs
+
+  pub reach-is : (b : Book) (xs : List Asked) → reach lim j b xs ≡ need (b .atoms) (b .sentences)
+  unfolding reach
+  reach-is b [] = refl
+  reach-is b (x ∷ xs) = omega (arith, reach-is (turned lim j b x) xs)

@@ -1,5 +1,5 @@
 -- The elements of a list by their numbers, counted from 1, and the atoms of a list. Each judgement has its sentence's number.
-use mathlib.Core.Path.{_≡_, refl, sym, _∙_, subst}
+use mathlib.Core.Path.{_≡_, refl, sym, _∙_, ap, subst}
 use mathlib.Core.Logic.{inl, inr}
 use mathlib.Core.List.{List, [], _∷_}
 use Prim.Native.Nat.{ℕ, zero, suc, _≤_}
@@ -8,9 +8,9 @@ use lib.ListN.{length}
 use Rattle.meaning.specs.Meaning.{Sentence, Each}
 use Rattle.book.specs.Rows.{numbered}
 use Rattle.book.specs.Table.{Judged}
-use Rattle.book.specs.Book.{Judges, JudgesAll}
+use Rattle.book.specs.Book.{Judges}
 use Rattle.book.specs.Means.{IsNumber}
-use Rattle.book.specs.Sound.{In}
+use Rattle.book.specs.Sound.{In, JudgesAll, none, more}
 
 module _ {A : Type 0} where
   pub numbered-one : (k : ℕ) (xs : List A) (x y : A) → IsNumber k xs x → IsNumber k xs y → x ≡ y
@@ -38,19 +38,16 @@ module _ {A : Type 0} where
 
 -- ---- judgements
 
-pub judges-numbered : (none : Judged) (k : ℕ) (ss : List Sentence) (js : List Judged) (s : Sentence) → JudgesAll ss js → IsNumber k ss s → Judges s (numbered none k js)
+pub judges-numbered : (d : Judged) (k : ℕ) (ss : List Sentence) (js : List Judged) (s : Sentence) → JudgesAll ss js → IsNumber k ss s → Judges s (numbered d k js)
 unfolding numbered
-judges-numbered none k [] js s m h = absurd h
-judges-numbered none zero (x ∷ ss) js s m h = absurd h
-judges-numbered none (suc k) (x ∷ ss) [] s m h = absurd m
-judges-numbered none (suc zero) (x ∷ ss) (j ∷ js) s m h = subst (λ y. Judges y j) h (m .0)
-judges-numbered none (suc (suc k)) (x ∷ ss) (j ∷ js) s m h = judges-numbered none (suc k) ss js s (m .1) h
+judges-numbered d k [] [] s none h = absurd h
+judges-numbered d zero (x ∷ ss) (j ∷ js) s (more p m) h = absurd h
+judges-numbered d (suc zero) (x ∷ ss) (j ∷ js) s (more p m) h = subst (λ y. Judges y j) h p
+judges-numbered d (suc (suc k)) (x ∷ ss) (j ∷ js) s (more p m) h = judges-numbered d (suc k) ss js s m h
 
 pub judges-length : (ss : List Sentence) (js : List Judged) → JudgesAll ss js → length ss ≡ length js
-judges-length [] [] m = refl
-judges-length [] (j ∷ js) m = absurd m
-judges-length (s ∷ ss) [] m = absurd m
-judges-length (s ∷ ss) (j ∷ js) m = let e = judges-length ss js (m .1) in omega (arith, e)
+judges-length [] [] none = refl
+judges-length (s ∷ ss) (j ∷ js) (more p m) = ap suc (judges-length ss js m)
 
 -- ---- atoms of a list
 

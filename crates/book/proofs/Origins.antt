@@ -13,13 +13,12 @@ use Rattle.meaning.specs.Meaning.{Assignment, atom, holds, same, Sentence, Sati
 use Rattle.meaning.specs.Merge.{rule-of, scope}
 use Rattle.book.specs.Rows.{Row, trail, causes, Standpoint, row-of, numbered, any, comes-from, origins}
 use Rattle.book.specs.Table.{Judged, scopes}
-use Rattle.book.specs.Book.{JudgesAll}
 use Rattle.meaning.proofs.Orders.{is-true, is-false}
 use Rattle.meaning.proofs.Members.{same→eq, eq→same}
 use Rattle.book.proofs.Number.{numbered-each, numbered-positive}
 use Rattle.book.specs.Means.{Among, NoTwice, GivenNoLater, OriginList}
 use Rattle.book.proofs.Tests.{among-on, any-told, any-tells}
-use Rattle.book.specs.Sound.{Reasoned, Sound, Blind}
+use Rattle.book.specs.Sound.{JudgesAll, Reasoned, Sound, Blind}
 use Rattle.book.proofs.Sound.{consistent}
 use Rattle.book.proofs.Blind.{causes-from, agrees-each, each-agrees, forced-by-causes}
 use Rattle.book.proofs.Explained.{scope-numbered}

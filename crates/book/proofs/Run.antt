@@ -10,11 +10,10 @@ use lib.IntN.{ℤ}
 use Rattle.meaning.specs.Meaning.{Sentence, Said, silent, conflict, forced, Each}
 use Rattle.book.specs.Rows.{Row, row, trail}
 use Rattle.book.specs.Table.{Judged, Speech, nothing, objects, derives, spoken, speech, Stop, run}
-use Rattle.book.specs.Book.{JudgesAll}
 use Rattle.book.specs.Means.{SaysNothing, ForcesFirst, Speaker, Clashes, DerivedRows, Additions}
 use Rattle.book.proofs.Number.{numbered-positive}
 use Rattle.book.proofs.Speech.{silent-of, conflict-of, derived-of}
-use Rattle.book.specs.Sound.{Scoped, Sound, Runs, rests, clashes, puts}
+use Rattle.book.specs.Sound.{JudgesAll, Scoped, Sound, Runs, rests, clashes, puts}
 use Rattle.book.proofs.Sound.{consistent, derive-sound}
 use Rattle.book.proofs.Few.{few-rows}
 use Rattle.book.proofs.Keeps.{next}

@@ -2,7 +2,7 @@
 -- Where the trail is consistent, what a sentence says and its bounds are one thing, and the trail of a sound book is consistent.
 use mathlib.Core.Path.{_≡_, refl, sym, _∙_, ap, ap₂, subst}
 use mathlib.Core.Bool.{Bool, true, false, not, cond, _&&_}
-use mathlib.Core.List.{List, [], _∷_, _++_}
+use mathlib.Core.List.{List, [], _∷_, _++_, map}
 use Prim.Native.Nat.{ℕ, zero, suc, _+_, _-_}
 use lib.ListN.{length}
 use lib.IntN.{ℤ}
@@ -12,12 +12,13 @@ use Rattle.meaning.specs.Meaning.{atom, Sentence, Consistent, Says, Each}
 use Rattle.types.specs.declared.Limits.{Limits}
 use Rattle.book.specs.Rows.{Row, row, trail, any, numbered, explanation, conflict-explanation, origins}
 use Rattle.book.specs.Table.{Step, give, open-level, take-back, propagate, search, Report, bounds, explain, explain-conflict, origin, list-trail, Call, step, report, Result, between, listed, Answer, reported, list-of, Judged, State, scopes, nobody, Speech, nothing, objects, derives, spoken, speech, Stop, run, propagated, result, Refusal, refusal, too-short, no-atom, on-trail, is-conflict, step-refusals, report-refusals, refusals, Outcome, unchanged, ended, End, end, apart, turning, tried, trying, searching, search-ended, step-effect, effect, decided, reply}
-use Rattle.book.specs.Book.{Judges, JudgesAll, Book, Asked, book-state, turn, after, answers, played}
+use Rattle.book.specs.Book.{WellFormed, Judges, Judgement, Judging, Book, Asked, fits, turn, after, turned, answers, played}
 use Rattle.meaning.proofs.Says.{says-unique}
 use Rattle.meaning.proofs.Extremes.{furthest-unique}
+use Rattle.book.proofs.Judged.{all-judging, all-scoped}
 use Rattle.book.proofs.Number.{judges-length}
 use Rattle.book.proofs.Speech.{derived-of}
-use Rattle.book.specs.Sound.{Scoped, Sound, SoundBook}
+use Rattle.book.specs.Sound.{JudgesAll, none, more, Scoped, Sound, SoundBook}
 use Rattle.book.proofs.Sound.{consistent, derive-sound}
 use Rattle.book.proofs.Tests.{none-first, none-rest, Passed, decided-under}
 use Rattle.book.proofs.Keeps.{next, atom-told, state-at, propagated-sound, tried-sound, turn-sound}
@@ -44,32 +45,20 @@ module _ (t : List ℤ) (c : Consistent t) where
 numbered-same : {A : Type 0} (f : Judged → A) → ((s : Sentence) (j j′ : Judged) → Judges s j → Judges s j′ → f j ≡ f j′)
     → (k : ℕ) (ss : List Sentence) (js js′ : List Judged) → JudgesAll ss js → JudgesAll ss js′ → f (numbered nobody k js) ≡ f (numbered nobody k js′)
 unfolding numbered
-numbered-same f one k [] [] [] m m′ = refl
-numbered-same f one k [] [] (j′ ∷ js′) m m′ = absurd m′
-numbered-same f one k [] (j ∷ js) js′ m m′ = absurd m
-numbered-same f one k (s ∷ ss) [] js′ m m′ = absurd m
-numbered-same f one k (s ∷ ss) (j ∷ js) [] m m′ = absurd m′
-numbered-same f one zero (s ∷ ss) (j ∷ js) (j′ ∷ js′) m m′ = refl
-numbered-same f one (suc zero) (s ∷ ss) (j ∷ js) (j′ ∷ js′) m m′ = one s j j′ (m .0) (m′ .0)
-numbered-same f one (suc (suc k)) (s ∷ ss) (j ∷ js) (j′ ∷ js′) m m′ = numbered-same f one (suc k) ss js js′ (m .1) (m′ .1)
+numbered-same f one k [] [] [] none none = refl
+numbered-same f one zero (s ∷ ss) (j ∷ js) (j′ ∷ js′) (more p m) (more p′ m′) = refl
+numbered-same f one (suc zero) (s ∷ ss) (j ∷ js) (j′ ∷ js′) (more p m) (more p′ m′) = one s j j′ p p′
+numbered-same f one (suc (suc k)) (s ∷ ss) (j ∷ js) (j′ ∷ js′) (more p m) (more p′ m′) = numbered-same f one (suc k) ss js js′ m m′
 
 scopes-same : (ss : List Sentence) (js js′ : List Judged) → JudgesAll ss js → JudgesAll ss js′ → scopes js ≡ scopes js′
-scopes-same [] [] [] m m′ = refl
-scopes-same [] [] (j′ ∷ js′) m m′ = absurd m′
-scopes-same [] (j ∷ js) js′ m m′ = absurd m
-scopes-same (s ∷ ss) [] js′ m m′ = absurd m
-scopes-same (s ∷ ss) (j ∷ js) [] m m′ = absurd m′
-scopes-same (s ∷ ss) (j ∷ js) (j′ ∷ js′) m m′ = ap₂ _∷_ (scope-same s j j′ (m .0) (m′ .0)) (scopes-same ss js js′ (m .1) (m′ .1))
+scopes-same [] [] [] none none = refl
+scopes-same (s ∷ ss) (j ∷ js) (j′ ∷ js′) (more p m) (more p′ m′) = ap₂ _∷_ (scope-same s j j′ p p′) (scopes-same ss js js′ m m′)
 
 speech-same : (t : List ℤ) → Consistent t → (k : ℕ) (ss : List Sentence) (js js′ : List Judged) → JudgesAll ss js → JudgesAll ss js′ → speech k js t ≡ speech k js′ t
 unfolding speech
-speech-same t c k [] [] [] m m′ = refl
-speech-same t c k [] [] (j′ ∷ js′) m m′ = absurd m′
-speech-same t c k [] (j ∷ js) js′ m m′ = absurd m
-speech-same t c k (s ∷ ss) [] js′ m m′ = absurd m
-speech-same t c k (s ∷ ss) (j ∷ js) [] m m′ = absurd m′
-speech-same t c k (s ∷ ss) (j ∷ js) (j′ ∷ js′) m m′ =
-    ap₂ (λ y rest. spoken y k rest) (said-same t c s j j′ (m .0) (m′ .0)) (speech-same t c (suc k) ss js js′ (m .1) (m′ .1))
+speech-same t c k [] [] [] none none = refl
+speech-same t c k (s ∷ ss) (j ∷ js) (j′ ∷ js′) (more p m) (more p′ m′) =
+    ap₂ (λ y rest. spoken y k rest) (said-same t c s j j′ p p′) (speech-same t c (suc k) ss js js′ m m′)
 
 module _ (n : ℕ) (ss : List Sentence) (js js′ : List Judged) (w : Each (Scoped n) ss) (m : JudgesAll ss js) (m′ : JudgesAll ss js′) where
   run-same : (v steps : ℕ) (rs : List Row) → Sound n ss v rs → run js v steps rs ≡ run js′ v steps rs
@@ -136,97 +125,99 @@ module _ (n : ℕ) (ss : List Sentence) (js js′ : List Judged) (w : Each (Scop
         → searching (here js v rs) ls ≡ searching (here js′ v rs) ls
     searching-same ls v rs t h = turning-same 0 0 v rs (λ p e. trying p e 0 ls) h (λ rs′ e k. trying-same ls e 0 v rs′ t k)
 
--- ---- one call
+    -- ---- one call
 
-module _ (lim : Limits) (b : Book) (js js′ : List Judged) (w : Each (Scoped (b .atoms)) (b .sentences))
-    (m : JudgesAll (b .sentences) js) (m′ : JudgesAll (b .sentences) js′) (h : SoundBook b) where
-  module _ (a : Asked) where
-    abbrev q : State
-    q = book-state lim js b (a .size) (a .counters)
+    module _ (v : ℕ) (rs : List Row) (h : Sound n ss v rs) where
+      abbrev q : State
+      q = here js v rs
 
-    abbrev q′ : State
-    q′ = book-state lim js′ b (a .size) (a .counters)
+      abbrev q′ : State
+      q′ = here js′ v rs
 
-    abbrev t : List ℤ
-    t = trail (b .rows)
+      abbrev t : List ℤ
+      t = trail rs
 
-    c : Consistent t
-    c = consistent (b .atoms) (b .sentences) (b .level) (b .rows) h
+      c : Consistent t
+      c = consistent n ss v rs h
 
-    result-same : (x : Report) → result q x ≡ result q′ x
-    result-same (bounds k) =
-        ap₂ {C = Result} between (numbered-same (λ j. j .least t) (least-same t c) k (b .sentences) js js′ m m′)
-        (numbered-same (λ j. j .greatest t) (greatest-same t c) k (b .sentences) js js′ m m′)
-    result-same (explain l) = ap {B = Result} (λ sc. listed (explanation sc (b .rows) l)) (scopes-same (b .sentences) js js′ m m′)
-    result-same (explain-conflict k) = ap {B = Result} (λ sc. listed (conflict-explanation sc (b .rows) k)) (scopes-same (b .sentences) js js′ m m′)
-    result-same (origin l) = ap {B = Result} (λ sc. listed (origins sc (b .rows) l)) (scopes-same (b .sentences) js js′ m m′)
-    result-same list-trail = refl
+      result-same : (y : Report) → result q y ≡ result q′ y
+      result-same (bounds k) =
+          ap₂ {C = Result} between (numbered-same (λ j. j .least t) (least-same t c) k ss js js′ m m′)
+          (numbered-same (λ j. j .greatest t) (greatest-same t c) k ss js js′ m m′)
+      result-same (explain l) = ap {B = Result} (λ sc. listed (explanation sc rs l)) (scopes-same ss js js′ m m′)
+      result-same (explain-conflict k) = ap {B = Result} (λ sc. listed (conflict-explanation sc rs k)) (scopes-same ss js js′ m m′)
+      result-same (origin l) = ap {B = Result} (λ sc. listed (origins sc rs l)) (scopes-same ss js js′ m m′)
+      result-same list-trail = refl
 
-    length-same : length js ≡ length js′
-    length-same = sym (judges-length (b .sentences) js m) ∙ judges-length (b .sentences) js′ m′
+      length-same : length js ≡ length js′
+      length-same = sym (judges-length ss js m) ∙ judges-length ss js′ m′
 
-    abbrev unnumbered : ℕ → ℕ → Refusal
-    unnumbered k n = refusal 16 (not (leb 1 k && leb k n))
+      abbrev unnumbered : ℕ → ℕ → Refusal
+      unnumbered k n = refusal 16 (not (leb 1 k && leb k n))
 
-    own-same : (x : Report) → report-refusals q x ≡ report-refusals q′ x
-    own-same (bounds k) = ap (λ n. unnumbered k n ∷ []) length-same
-    own-same (explain l) = refl
-    own-same (explain-conflict k) =
-        ap₂ (λ n y. unnumbered k n ∷ refusal 17 (not (is-conflict y)) ∷ [])
-        length-same (numbered-same (λ j. j .says t) (said-same t c) k (b .sentences) js js′ m m′)
-    own-same (origin l) = refl
-    own-same list-trail = refl
+      own-same : (y : Report) → report-refusals q y ≡ report-refusals q′ y
+      own-same (bounds k) = ap (λ n. unnumbered k n ∷ []) length-same
+      own-same (explain l) = refl
+      own-same (explain-conflict k) =
+          ap₂ (λ n y. unnumbered k n ∷ refusal 17 (not (is-conflict y)) ∷ [])
+          length-same (numbered-same (λ j. j .says t) (said-same t c) k ss js js′ m m′)
+      own-same (origin l) = refl
+      own-same list-trail = refl
 
-    steps-same : (x : Step) → step-refusals q x ≡ step-refusals q′ x
-    steps-same (give l) = refl
-    steps-same open-level = refl
-    steps-same (take-back k) = refl
-    steps-same propagate = refl
-    steps-same (search ls) = refl
+      steps-same : (y : Step) → step-refusals q y ≡ step-refusals q′ y
+      steps-same (give l) = refl
+      steps-same open-level = refl
+      steps-same (take-back k) = refl
+      steps-same propagate = refl
+      steps-same (search ls) = refl
 
-    refusals-same : (x : Call) → refusals q x ≡ refusals q′ x
-    refusals-same (step x) = steps-same x
-    refusals-same (report x room) = ap₂ (λ rs r. rs ++ (too-short room (list-of r) ∷ [])) (own-same x) (result-same x)
+      refusals-same : (y : Call) → refusals q y ≡ refusals q′ y
+      refusals-same (step y) = steps-same y
+      refusals-same (report y room) = ap₂ (λ rs r. rs ++ (too-short room (list-of r) ∷ [])) (own-same y) (result-same y)
 
-    step-same : (x : Step) → Passed (step-refusals q x) → step-effect q x ≡ step-effect q′ x
-    step-same (give l) p = refl
-    step-same open-level p = refl
-    step-same (take-back k) p = refl
-    step-same propagate p =
-        ap {B = Outcome} (λ (z : Stop). record { answer = ended (z .sentence) (length (z .rows) - length (b .rows)); level = b .level; rows = z .rows })
-        (run-same (b .atoms) (b .sentences) js js′ w m m′ (b .level) (suc (b .atoms)) (b .rows) h)
-    step-same (search ls) p =
-        ap search-ended (searching-same (b .atoms) (b .sentences) js js′ w m m′ (q .broken) (q .levels) ls (b .level) (b .rows) (p .0) h)
+      step-same : (y : Step) → Passed (step-refusals q y) → step-effect q y ≡ step-effect q′ y
+      step-same (give l) p = refl
+      step-same open-level p = refl
+      step-same (take-back k) p = refl
+      step-same propagate p =
+          ap {B = Outcome} (λ (z : Stop). record { answer = ended (z .sentence) (length (z .rows) - length rs); level = v; rows = z .rows })
+          (run-same v (suc n) rs h)
+      step-same (search ls) p =
+          ap search-ended (searching-same ls v rs (p .0) h)
 
-    effect-same : (x : Call) → Passed (refusals q x) → effect q x ≡ effect q′ x
-    effect-same (step x) p = step-same x p
-    effect-same (report x room) p = ap (λ r. unchanged q (reported r)) (result-same x)
+      effect-same : (y : Call) → Passed (refusals q y) → effect q y ≡ effect q′ y
+      effect-same (step y) p = step-same y p
+      effect-same (report y room) p = ap (λ r. unchanged q (reported r)) (result-same y)
 
-    decided-same : (rs : List Refusal) (o : Outcome) → decided q rs o ≡ decided q′ rs o
-    decided-same [] o = refl
-    decided-same (r ∷ rs) o = ap (cond (r .applies) (unchanged q (Answer.refused (r .code) (r .value)))) (decided-same rs o)
+      decided-same : (rs : List Refusal) (o : Outcome) → decided q rs o ≡ decided q′ rs o
+      decided-same [] o = refl
+      decided-same (r ∷ rs) o = ap (cond (r .applies) (unchanged q (Answer.refused (r .code) (r .value)))) (decided-same rs o)
 
-    pub turn-same : turn lim js b a ≡ turn lim js′ b a
-    unfolding reply
-    turn-same =
-        decided-under q (refusal 9 (q .broken) ∷ refusals q (a .call)) (effect q (a .call)) (effect q′ (a .call)) (λ p. effect-same (a .call) (p .1))
-        ∙ ap (λ rs. decided q (refusal 9 (q .broken) ∷ rs) (effect q′ (a .call))) (refusals-same (a .call))
-        ∙ decided-same (refusal 9 (q .broken) ∷ refusals q′ (a .call)) (effect q′ (a .call))
+      pub reply-same : (y : Call) → reply q y ≡ reply q′ y
+      unfolding reply
+      reply-same y =
+          decided-under q (refusal 9 x ∷ refusals q y) (effect q y) (effect q′ y) (λ p. effect-same y (p .1))
+          ∙ ap (λ rs. decided q (refusal 9 x ∷ rs) (effect q′ y)) (refusals-same y)
+          ∙ decided-same (refusal 9 x ∷ refusals q′ y) (effect q′ y)
 
 -- ---- a list of calls
 
-pub answers-same : (lim : Limits) (b : Book) (js js′ : List Judged) → Each (Scoped (b .atoms)) (b .sentences) → JudgesAll (b .sentences) js → JudgesAll (b .sentences) js′
-    → SoundBook b → (xs : List Asked) → answers lim js b xs ≡ answers lim js′ b xs
-unfolding answers
-answers-same lim b js js′ w m m′ h [] = refl
-answers-same lim b js js′ w m m′ h (x ∷ xs) =
-    ap (λ (o : Outcome). o .answer ∷ answers lim js (after b o) xs) (turn-same lim b js js′ w m m′ h x)
-    ∙ ap (λ ys. turn lim js′ b x .answer ∷ ys) (answers-same lim (after b (turn lim js′ b x)) js js′ w m m′ (turn-sound lim js′ b w m′ h x) xs)
+module _ (lim : Limits) (j j′ : Judgement) (m : Judging j) (m′ : Judging j′) where
+  pub turn-same : (b : Book) → Each (WellFormed (b .atoms)) (b .sentences) → SoundBook b → (a : Asked) → turn lim j b a ≡ turn lim j′ b a
+  turn-same b w h a =
+      reply-same (b .atoms) (b .sentences) (map j (b .sentences)) (map j′ (b .sentences)) (all-scoped (b .atoms) (b .sentences) w)
+      (all-judging (b .atoms) j m (b .sentences) w) (all-judging (b .atoms) j′ m′ (b .sentences) w) (not (fits b (a .size) (a .counters))) (lim .levels)
+      (b .level) (b .rows) h (a .call)
 
-pub played-same : (lim : Limits) (b : Book) (js js′ : List Judged) → Each (Scoped (b .atoms)) (b .sentences) → JudgesAll (b .sentences) js → JudgesAll (b .sentences) js′
-    → SoundBook b → (xs : List Asked) → played lim js b xs ≡ played lim js′ b xs
-unfolding played
-played-same lim b js js′ w m m′ h [] = refl
-played-same lim b js js′ w m m′ h (x ∷ xs) =
-    ap (λ (o : Outcome). played lim js (after b o) xs) (turn-same lim b js js′ w m m′ h x)
-    ∙ played-same lim (after b (turn lim js′ b x)) js js′ w m m′ (turn-sound lim js′ b w m′ h x) xs
+  pub answers-same : (b : Book) → Each (WellFormed (b .atoms)) (b .sentences) → SoundBook b → (xs : List Asked) → answers lim j b xs ≡ answers lim j′ b xs
+  unfolding answers
+  answers-same b w h [] = refl
+  answers-same b w h (x ∷ xs) =
+      ap (λ (o : Outcome). o .answer ∷ answers lim j (after b (x .call) o) xs) (turn-same b w h x)
+      ∙ ap (λ ys. turn lim j′ b x .answer ∷ ys) (answers-same (turned lim j′ b x) w (turn-sound lim j′ m′ b w h x) xs)
+
+  pub played-same : (b : Book) → Each (WellFormed (b .atoms)) (b .sentences) → SoundBook b → (xs : List Asked) → played lim j b xs ≡ played lim j′ b xs
+  unfolding played
+  played-same b w h [] = refl
+  played-same b w h (x ∷ xs) =
+      ap (λ (o : Outcome). played lim j (after b (x .call) o) xs) (turn-same b w h x) ∙ played-same (turned lim j′ b x) w (turn-sound lim j′ m′ b w h x) xs

@@ -8,7 +8,7 @@ use lib.IntN.{ℤ}
 use Rattle.meaning.specs.Meaning.{Sentence, Consistent, Conflict, Said, silent, conflict, forced, Says, Each}
 use Rattle.meaning.specs.Merge.{rule-of, scope}
 use Rattle.book.specs.Table.{Judged, Speech, nothing, objects, derives, spoken, speech}
-use Rattle.book.specs.Book.{JudgesAll}
+use Rattle.book.specs.Sound.{JudgesAll, none, more}
 use Rattle.book.specs.Means.{IsNumber, SaysNothing, ForcesFirst, Speaker}
 use Rattle.book.proofs.Number.{numbered-positive}
 
@@ -52,11 +52,9 @@ module _ (t : List ℤ) where
 
   speech-told : Consistent t → (k : ℕ) (ss : List Sentence) (js : List Judged) → JudgesAll ss js → Told ss k (speech (suc k) js t)
   unfolding speech
-  speech-told c k [] [] m = tt
-  speech-told c k [] (j ∷ js) m = absurd m
-  speech-told c k (s ∷ ss) [] m = absurd m
-  speech-told c k (s ∷ ss) (j ∷ js) m =
-      go (j .says t) (subst (λ x. Says s t x (j .says t)) (m .0 .scope-is) (m .0 .said t c)) (speech-told c (suc k) ss js (m .1))
+  speech-told c k [] [] none = tt
+  speech-told c k (s ∷ ss) (j ∷ js) (more p m) =
+      go (j .says t) (subst (λ x. Says s t x (j .says t)) (p .scope-is) (p .said t c)) (speech-told c (suc k) ss js m)
     where
       go : (y : Said) → Says s t (scope (rule-of s)) y → Told ss (suc k) (speech (suc (suc k)) js t) → Told (s ∷ ss) k (spoken y (suc k) (speech (suc (suc k)) js t))
       go silent h rest = told-later s ss k (speech (suc (suc k)) js t) h rest

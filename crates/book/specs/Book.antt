@@ -3,8 +3,8 @@
 -- assignments.
 use mathlib.Core.Path.{_≡_}
 use mathlib.Core.Bool.{Bool, not, _&&_}
-use mathlib.Core.List.{List, [], _∷_}
-use Prim.Native.Nat.{ℕ, _+_, _*_, _≤_}
+use mathlib.Core.List.{List, [], _∷_, map}
+use Prim.Native.Nat.{ℕ, _+_, _*_, _≤_, max}
 use lib.ListN.{length}
 use lib.IntN.{ℤ}
 use lib.Dec.{eqb, leb}
@@ -16,6 +16,14 @@ use Rattle.types.specs.declared.Limits.{Limits}
 use Rattle.book.specs.Rows.{Row}
 use Rattle.book.specs.Table.{Call, Answer, Judged, State, Outcome, reply}
 
+-- ---- the sentences that the book may hold: atoms are 1 to N
+
+pub record WellFormed (n : ℕ) (s : Sentence) : Type 0 where
+  pub head-low : 1 ≤ s .head
+  pub head-high : s .head ≤ n
+  pub atoms-high : Each (λ e. place e ≤ n) (s .entries)
+  pub admissible : Admissible s
+
 -- ---- judged by full assignments
 
 -- what is said and the bounds are those over the full assignments that agree with the trail
@@ -25,16 +33,20 @@ pub record Judges (s : Sentence) (j : Judged) : Type 0 where
   pub least-is : (t : List ℤ) → Consistent t → Furthest down s t (j .least t)
   pub greatest-is : (t : List ℤ) → Consistent t → Furthest up s t (j .greatest t)
 
-abbrev pub JudgesAll : List Sentence → List Judged → Type 0
-JudgesAll [] [] = Unit {0}
-JudgesAll [] (j ∷ js) = ⊥
-JudgesAll (s ∷ ss) [] = ⊥
-JudgesAll (s ∷ ss) (j ∷ js) = Judges s j × JudgesAll ss js
+-- a judgement of every sentence, and one that is right for each that the book may hold
+abbrev pub Judgement : Type 0
+Judgement = Sentence → Judged
+
+abbrev pub Judging : Judgement → Type 0
+Judging j = (n : ℕ) (s : Sentence) → WellFormed n s → Judges s (j s)
 
 -- ---- judged by computed tests on a stored rule
 
 abbrev pub judged : Rule → Judged
 judged r = record { scope = scope r; says = says r; least = extreme down r; greatest = extreme up r }
+
+abbrev pub computed : Judgement
+computed s = judged (rule-of s)
 
 abbrev pub judged-all : List Rule → List Judged
 judged-all [] = []
@@ -80,30 +92,35 @@ abbrev pub fits : Book → ℕ → Counters → Bool
 fits b size c = (eqb (c .length-is) (length (b .rows)) && eqb (c .level-is) (b .level)) && leb (need (b .atoms) (b .sentences)) size
 
 -- the book as a state of the table, for sentences judged so
-abbrev pub book-state : Limits → List Judged → Book → ℕ → Counters → State
-book-state lim js b size c =
-    record { broken = not (fits b size c); atoms = b .atoms; levels = lim .levels; sentences = js; level = b .level; rows = b .rows }
+abbrev pub book-state : Limits → Judgement → Book → ℕ → Counters → State
+book-state lim j b size c =
+    record { broken = not (fits b size c); atoms = b .atoms; levels = lim .levels; sentences = map j (b .sentences); level = b .level; rows = b .rows }
 
-abbrev pub turn : Limits → List Judged → Book → Asked → Outcome
-turn lim js b a = reply (book-state lim js b (a .size) (a .counters)) (a .call)
+abbrev pub turn : Limits → Judgement → Book → Asked → Outcome
+turn lim j b a = reply (book-state lim j b (a .size) (a .counters)) (a .call)
 
-abbrev pub after : Book → Outcome → Book
-after b o = record { atoms = b .atoms; sentences = b .sentences; level = o .level; rows = o .rows }
+-- the sentences after a call and its answer, whatever stands for a sentence: no call of document 01 changes them
+module _ {A : Type 0} (stored : Sentence → A) where
+  abbrev pub theory-after : Call → Answer → List A → List A
+  theory-after x a ts = ts
+
+abbrev pub after : Book → Call → Outcome → Book
+after b x o = record { atoms = b .atoms; sentences = theory-after (λ s. s) x (o .answer) (b .sentences); level = o .level; rows = o .rows }
+
+abbrev pub turned : Limits → Judgement → Book → Asked → Book
+turned lim j b a = after b (a .call) (turn lim j b a)
 
 -- the answers to a list of calls, the first call first
-unfoldable pub answers : Limits → List Judged → Book → List Asked → List Answer
-answers lim js b [] = []
-answers lim js b (a ∷ rest) = turn lim js b a .answer ∷ answers lim js (after b (turn lim js b a)) rest
+unfoldable pub answers : Limits → Judgement → Book → List Asked → List Answer
+answers lim j b [] = []
+answers lim j b (a ∷ rest) = turn lim j b a .answer ∷ answers lim j (turned lim j b a) rest
 
 -- the book after them
-unfoldable pub played : Limits → List Judged → Book → List Asked → Book
-played lim js b [] = b
-played lim js b (a ∷ rest) = played lim js (after b (turn lim js b a)) rest
+unfoldable pub played : Limits → Judgement → Book → List Asked → Book
+played lim j b [] = b
+played lim j b (a ∷ rest) = played lim j (turned lim j b a) rest
 
--- ---- the sentences that the book may hold: atoms are 1 to N
-
-pub record WellFormed (n : ℕ) (s : Sentence) : Type 0 where
-  pub head-low : 1 ≤ s .head
-  pub head-high : s .head ≤ n
-  pub atoms-high : Each (λ e. place e ≤ n) (s .entries)
-  pub admissible : Admissible s
+-- the most words that the book needed before, between and after them
+unfoldable pub reach : Limits → Judgement → Book → List Asked → ℕ
+reach lim j b [] = need (b .atoms) (b .sentences)
+reach lim j b (a ∷ rest) = max (need (b .atoms) (b .sentences)) (reach lim j (turned lim j b a) rest)

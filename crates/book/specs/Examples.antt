@@ -9,8 +9,8 @@ use Rattle.meaning.specs.Meaning.{sum, maximum, lower, upper, Sentence}
 use Rattle.meaning.specs.Examples.{minus, _on_, sentence, over-none, m1, m3, m4, m8, m9, m10}
 use Rattle.types.specs.declared.Limits.{Limits}
 use Rattle.types.specs.Limits.{base}
-use Rattle.book.specs.Table.{Step, give, open-level, take-back, propagate, search, Report, bounds, explain, explain-conflict, origin, list-trail, Call, step, report, Result, between, listed, Answer, refused, done, still, clash, searched, reported, Paper, paper, list-after, Judged}
-use Rattle.book.specs.Book.{JudgesAll, fresh, Asked, answers}
+use Rattle.book.specs.Table.{Step, give, open-level, take-back, propagate, search, Report, bounds, explain, explain-conflict, origin, list-trail, Call, step, report, Result, between, listed, Answer, refused, done, still, clash, searched, reported, Paper, paper, list-after}
+use Rattle.book.specs.Book.{Judgement, Judging, fresh, Asked, answers}
 
 pub record Turn : Type 0 where
   pub asked : Asked
@@ -32,7 +32,7 @@ expected (x ∷ xs) = x .answer ∷ expected xs
 
 -- the book gives the story's answers, for any judgement of its sentences by full assignments
 abbrev pub Told : Story → Type 0
-Told x = (js : List Judged) → JudgesAll (x .sentences) js → answers (x .limits) js (fresh (x .atoms) (x .sentences)) (calls (x .turns)) ≡ expected (x .turns)
+Told x = (j : Judgement) → Judging j → answers (x .limits) j (fresh (x .atoms) (x .sentences)) (calls (x .turns)) ≡ expected (x .turns)
 
 -- ---- short forms: a call on an area of the size, with the counters (length, level), and its answer
 

@@ -10,8 +10,14 @@ use Rattle.meaning.specs.Meaning.{Assignment, atom, Sentence, Satisfied, Forced
 use Rattle.meaning.specs.Merge.{rule-of, scope}
 use Rattle.book.specs.Rows.{Row, row, trail}
 use Rattle.book.specs.Table.{Judged, nothing, objects, derives, speech}
-use Rattle.book.specs.Book.{Book}
+use Rattle.book.specs.Book.{Judges, Book}
 use Rattle.book.specs.Means.{IsNumber}
+
+-- ---- a list of judgements, one for each sentence
+
+pub data JudgesAll : List Sentence → List Judged → Type 0 where
+  none : JudgesAll [] []
+  more : {s : Sentence} {j : Judged} {ss : List Sentence} {js : List Judged} → Judges s j → JudgesAll ss js → JudgesAll (s ∷ ss) (j ∷ js)
 
 -- ---- the atoms of a sentence
 

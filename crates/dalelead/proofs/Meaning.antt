@@ -13,7 +13,8 @@ use Rattle.meaning.specs.Meaning.{Sentence, Each}
 use Rattle.meaning.specs.Merge.{Rule, as-sentence}
 use Rattle.book.specs.Rows.{trail}
 use Rattle.book.specs.Table.{bounds, explain-conflict, report, between, listed, reported, list-of, Paper, paper, Judged, Outcome, run, propagated, result, effect, reply}
-use Rattle.book.specs.Book.{JudgesAll, judged-all, rules-of, WellFormed}
+use Rattle.book.specs.Book.{judged-all, rules-of, WellFormed}
+use Rattle.book.specs.Sound.{JudgesAll}
 use Rattle.book.specs.Means.{SaysNothing, Clashes, Additions, Bounded, ExplainsConflict}
 use Rattle.book.proofs.Judged.{all-judged}
 use Rattle.book.proofs.Run.{run-alike}

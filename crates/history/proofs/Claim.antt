@@ -5,7 +5,7 @@ use mathlib.Core.Path.{_≡_, refl, sym, ap, ap₂, _∙_, subst}
 use mathlib.Core.List.{List}
 use Prim.Native.Nat.{ℕ, suc, _-_, _<_}
 use native.Mathlib.Omega.{arith}
-use lib.ListN.{length, take}
+use lib.ListN.{length, take, drop}
 use lib.IntN.{ℤ}
 use Rattle.types.specs.declared.Limits.{Limits}
 use Rattle.types.specs.Limits.{Fitting}
@@ -13,15 +13,16 @@ use Rattle.types.specs.declared.Counters as t
 use Rattle.numbers.specs.Words.{unword}
 use Rattle.meaning.specs.Meaning.{Sentence, Each}
 use Rattle.book.specs.Rows.{Row, trail}
-use Rattle.book.specs.Table.{Report, explain, explain-conflict, origin, report, Result, Answer, reported, list-of, paper, list-after, Judged, State, result, reply}
-use Rattle.book.specs.Book.{Counters, JudgesAll, WellFormed, Book, fresh, book-state, answers, played}
+use Rattle.book.specs.Table.{Report, explain, explain-conflict, origin, report, Answer, reported, list-of, paper, list-after, State, result, reply}
+use Rattle.book.specs.Book.{Counters, WellFormed, Judgement, Judging, computed, rules-of, Book, fresh, need, book-state, answers, played}
 use Rattle.book.specs.Means.{Bounded, Explains, ExplainsConflict, OriginList}
 use Rattle.book.proofs.Tests.{reply-is}
-use Rattle.book.proofs.Judged.{all-judged, all-scoped, all-blind}
-use Rattle.book.specs.Sound.{Scoped, Sound}
+use Rattle.book.proofs.Judged.{computed-right}
+use Rattle.book.specs.Sound.{Sound}
 use Rattle.book.proofs.Reports.{explain-means, explain-conflict-means, origin-means}
+use Rattle.book.proofs.Keeps.{played-sentences, reach-is}
 use Rattle.book.proofs.Same.{answers-same, played-same}
-use Rattle.area.specs.Layout.{atoms-of, level-of, rows-of, record-at, least-at, greatest-at}
+use Rattle.area.specs.Layout.{atoms-of, level-of, rows-of, theory-of, record-at, least-at, greatest-at}
 use Rattle.calls.specs.declared.Listed.{Listed}
 use Rattle.calls.specs.Calls.{counted, listed-paper, area-state, Reports}
 use Rattle.calls.proofs.Acting.{answered-whole}
@@ -34,7 +35,7 @@ use Rattle.columns.specs.declared.Answer as load
 use Rattle.dalelead.specs.Public.{ListsExplanation, ListsConflict, ListsOrigin}
 use Rattle.history.specs.History.{Event, asked-in, HandedBack, Claim, History}
 use Rattle.history.proofs.Sentences.{loaded-well-formed, sentences-are}
-use Rattle.history.proofs.Stands.{computed, book-of, Stands, whole-fits, state-is}
+use Rattle.history.proofs.Stands.{book-of, Stands, whole-fits, state-is}
 use Rattle.history.proofs.Steps.{Followed, followed}
 
 -- ---- reports on an area that stands for the book
@@ -48,10 +49,10 @@ module _ (lim : Limits) (fit : Fitting lim) (n : ℕ) (ss : List Sentence) (well
   q = area-state lim w
 
   abbrev book-q : State
-  book-q = book-state lim (computed ss) (book-of n ss w) (length w) (counted c)
+  book-q = book-state lim computed (book-of n ss w) (length w) (counted c)
 
   book-state-is : q ≡ book-q
-  book-state-is = state-is lim n ss w (counted c) s (length w) (counted c) (whole-fits lim n ss w (counted c) s (counted c) (s .whole))
+  book-state-is = state-is lim n ss w (counted c) s (length w) (counted c) (whole-fits lim n ss w (counted c) s (length w) (counted c) (s .whole) (s .whole .enough))
 
   bounds-right : (k : ℕ) → k < length ss → Bounded ss (trail (rows-of w)) (suc k) (unword (least-at w (record-at n k))) (unword (greatest-at w (record-at n k)))
   bounds-right k l =
@@ -71,17 +72,17 @@ module _ (lim : Limits) (fit : Fitting lim) (n : ℕ) (ss : List Sentence) (well
   explained-right : (l : ℤ) (old new : List ℤ) (r : Listed) → ListsExplanation lim w c l old new r → r .code ≡ 0 → Explains ss (rows-of w) l (take (r .value) new)
   explained-right l old new r a z =
       told (explain l) old new r a z (Explains ss (rows-of w) l)
-      (explain-means lim (computed ss) (book-of n ss w) (all-judged n ss well) (s .sound) (length w) (counted c) (all-blind n ss well) l (length old) (list-of (result q (explain l))))
+      (explain-means lim computed computed-right (book-of n ss w) well (s .sound) (length w) (counted c) l (length old) (list-of (result q (explain l))))
 
   conflict-right : (k : ℕ) (old new : List ℤ) (r : Listed) → ListsConflict lim w c k old new r → r .code ≡ 0 → ExplainsConflict ss (rows-of w) k (take (r .value) new)
   conflict-right k old new r a z =
       told (explain-conflict k) old new r a z (ExplainsConflict ss (rows-of w) k)
-      (explain-conflict-means lim (computed ss) (book-of n ss w) (all-judged n ss well) (s .sound) (length w) (counted c) (all-blind n ss well) k (length old) (list-of (result q (explain-conflict k))))
+      (explain-conflict-means lim computed computed-right (book-of n ss w) well (s .sound) (length w) (counted c) k (length old) (list-of (result q (explain-conflict k))))
 
   origin-right : (l : ℤ) (old new : List ℤ) (r : Listed) → ListsOrigin lim w c l old new r → r .code ≡ 0 → OriginList ss (rows-of w) l (take (r .value) new)
   origin-right l old new r a z =
       told (origin l) old new r a z (OriginList ss (rows-of w) l)
-      (origin-means lim (computed ss) (book-of n ss w) (all-judged n ss well) (s .sound) (length w) (counted c) (all-blind n ss well) l (length old) (list-of (result q (origin l))))
+      (origin-means lim computed computed-right (book-of n ss w) well (s .sound) (length w) (counted c) l (length old) (list-of (result q (origin l))))
 
   origin-has-answer : (l : ℤ) (old : List ℤ) → (new : List ℤ) × (r : Listed) × ListsOrigin lim w c l old new r
   origin-has-answer l old =
@@ -102,15 +103,15 @@ module _ (lim : Limits) (fit : Fitting lim) (n : ℕ) (ss : List Sentence) (well
 module _ (lim : Limits) (fit : Fitting lim) (n : ℕ) (ss : List Sentence) (well : Each (WellFormed n) ss) (w w′ : List ℕ) (c : t.Counters) (es : List Event) where
   claimed : book-of n ss w ≡ fresh n ss → Followed lim n ss well w es w′ c → Claim lim n ss w es w′ c
   claimed e f = record {
-    answers-are = λ js m. subst (HandedBack es) (answers-same lim (fresh n ss) (computed ss) js scoped judges m tt (asked-in es)) answers-computed;
-    judged = judges;
+    answers-are = λ j m. subst (HandedBack es) (answers-same lim computed j computed-right m (fresh n ss) well tt (asked-in es)) answers-computed;
+    judged = computed-right;
     whole = s .whole;
     atoms = s .atoms;
-    theory = s .theory;
+    theory = λ j m. s .theory ∙ ap {A = List Sentence} rules-of (sym (played-sentences lim j (fresh n ss) (asked-in es)));
     size = f .size;
-    past-need = f .past-need;
-    rows = λ js m. ap {A = Book} (λ b. b .rows) (book-is js m);
-    level = λ js m. ap {A = Book} (λ b. b .level) (book-is js m);
+    past-need = λ j m. subst (λ k. drop k w′ ≡ drop k w) (sym (reach-is lim j (fresh n ss) (asked-in es))) (f .past-need);
+    rows = λ j m. ap {A = Book} (λ b. b .rows) (book-is j m);
+    level = λ j m. ap {A = Book} (λ b. b .level) (book-is j m);
     counters =
         ap₂ {A = ℕ} {B = ℕ} {C = Counters} (λ k v. record { length-is = k; level-is = v })
         (sym (rows-count lim w′ (counted c) (s .whole))) (sym (s .whole .level-is));
@@ -124,20 +125,14 @@ module _ (lim : Limits) (fit : Fitting lim) (n : ℕ) (ss : List Sentence) (well
       s : Stands lim n ss w′ (counted c)
       s = f .stands
 
-      judges : JudgesAll ss (computed ss)
-      judges = all-judged n ss well
+      answers-computed : HandedBack es (answers lim computed (fresh n ss) (asked-in es))
+      answers-computed = subst (λ b. HandedBack es (answers lim computed b (asked-in es))) e (f .handed)
 
-      scoped : Each (Scoped n) ss
-      scoped = all-scoped n ss well
-
-      answers-computed : HandedBack es (answers lim (computed ss) (fresh n ss) (asked-in es))
-      answers-computed = subst (λ b. HandedBack es (answers lim (computed ss) b (asked-in es))) e (f .handed)
-
-      book-is : (js : List Judged) → JudgesAll ss js → book-of n ss w′ ≡ played lim js (fresh n ss) (asked-in es)
-      book-is js m =
+      book-is : (j : Judgement) → Judging j → book-of n ss w′ ≡ played lim j (fresh n ss) (asked-in es)
+      book-is j m =
           sym (f .book)
-          ∙ ap {A = Book} (λ b. played lim (computed ss) b (asked-in es)) e
-          ∙ played-same lim (fresh n ss) (computed ss) js scoped judges m tt (asked-in es)
+          ∙ ap {A = Book} (λ b. played lim computed b (asked-in es)) e
+          ∙ played-same lim computed j computed-right m (fresh n ss) well tt (asked-in es)
 
 pub history : (lim : Limits) → Fitting lim → History lim
 history lim fit w₀ w n columns r loads code es w′ c calls =
@@ -153,3 +148,12 @@ history lim fit w₀ w n columns r loads code es w′ c calls =
       theory = l .theory;
       sound = subst (λ rs. Sound n ss (level-of w) rs) (sym (l .rows)) tt;
     }))
+
+-- ---- today no call changes the sentences: the area holds those of the load, and the words past their need keep their contents
+
+module _ {lim : Limits} {n : ℕ} {ss : List Sentence} {loaded : List ℕ} {es : List Event} {w : List ℕ} {c : t.Counters} (h : Claim lim n ss loaded es w c) where
+  pub theory-is : theory-of w ≡ rules-of ss
+  theory-is = h .theory computed (h .judged) ∙ ap {A = List Sentence} rules-of (played-sentences lim computed (fresh n ss) (asked-in es))
+
+  pub past-need-is : drop (need n ss) w ≡ drop (need n ss) loaded
+  past-need-is = subst (λ k. drop k w ≡ drop k loaded) (reach-is lim computed (fresh n ss) (asked-in es)) (h .past-need computed (h .judged))

@@ -1,6 +1,5 @@
 -- Every public contract is a call of the claim: give, open, take back, propagate and the search are steps, the others reports. Bounds lend no
 -- list, so that none is written.
-use mathlib.Core.Path.{refl}
 use mathlib.Core.List.{List, []}
 use Prim.Native.Nat.{ℕ}
 use lib.ListN.{length}

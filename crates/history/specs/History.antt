@@ -11,8 +11,8 @@ use Rattle.types.specs.declared.Counters as t
 use Rattle.numbers.specs.Words.{unword}
 use Rattle.meaning.specs.Meaning.{Sentence}
 use Rattle.book.specs.Rows.{trail}
-use Rattle.book.specs.Table.{Step, Report, Call, step, report, Answer, Paper, paper, list-after, Judged}
-use Rattle.book.specs.Book.{Counters, JudgesAll, judged-all, rules-of, fresh, need, Asked, answers, played}
+use Rattle.book.specs.Table.{Step, Report, Call, step, report, Answer, Paper, paper, list-after}
+use Rattle.book.specs.Book.{Counters, Judgement, Judging, computed, rules-of, fresh, Asked, answers, played, reach}
 use Rattle.book.specs.Means.{Bounded, Explains, ExplainsConflict, OriginList}
 use Rattle.area.specs.Layout.{atoms-of, level-of, rows-of, theory-of, record-at, least-at, greatest-at}
 use Rattle.area.specs.Whole.{Whole}
@@ -61,26 +61,32 @@ abbrev pub asked-in : List Event → List Asked
 asked-in [] = []
 asked-in (e ∷ es) = e .asked ∷ asked-in es
 
--- what was handed back is the paper's form of these answers
+-- what a call handed back is the paper's form of an answer
+pub record HandsBack (e : Event) (a : Answer) : Type 0 where
+  pub numbers : e .numbers ≡ paper a
+  pub list : e .new ≡ list-after a (e .old)
+
+-- and so for all of them
 abbrev pub HandedBack : List Event → List Answer → Type 0
 HandedBack [] [] = Unit {0}
 HandedBack [] (a ∷ rest) = ⊥
 HandedBack (e ∷ es) [] = ⊥
-HandedBack (e ∷ es) (a ∷ rest) = (e .numbers ≡ paper a) × (e .new ≡ list-after a (e .old)) × HandedBack es rest
+HandedBack (e ∷ es) (a ∷ rest) = HandsBack e a × HandedBack es rest
 
 -- `loaded` are the words that load left, `w` and `c` the words and counters after the calls
 pub record Claim (lim : Limits) (n : ℕ) (ss : List Sentence) (loaded : List ℕ) (es : List Event) (w : List ℕ) (c : t.Counters) : Type 0 where
   -- the book's answers, whoever judges by full assignments; and such a judgement exists
-  pub answers-are : (js : List Judged) → JudgesAll ss js → HandedBack es (answers lim js (fresh n ss) (asked-in es))
-  pub judged : JudgesAll ss (judged-all (rules-of ss))
-  -- the area, and its trail
+  pub answers-are : (j : Judgement) → Judging j → HandedBack es (answers lim j (fresh n ss) (asked-in es))
+  pub judged : Judging computed
+  -- the area, and its trail; words past the most that was needed keep their contents
   pub whole : Whole lim w (counted c)
   pub atoms : atoms-of w ≡ n
-  pub theory : theory-of w ≡ rules-of ss
+  pub theory : (j : Judgement) → Judging j → theory-of w ≡ rules-of (played lim j (fresh n ss) (asked-in es) .sentences)
   pub size : length w ≡ length loaded
-  pub past-need : drop (need n ss) w ≡ drop (need n ss) loaded
-  pub rows : (js : List Judged) → JudgesAll ss js → rows-of w ≡ played lim js (fresh n ss) (asked-in es) .rows
-  pub level : (js : List Judged) → JudgesAll ss js → level-of w ≡ played lim js (fresh n ss) (asked-in es) .level
+  pub past-need : (j : Judgement) → Judging j
+      → drop (reach lim j (fresh n ss) (asked-in es)) w ≡ drop (reach lim j (fresh n ss) (asked-in es)) loaded
+  pub rows : (j : Judgement) → Judging j → rows-of w ≡ played lim j (fresh n ss) (asked-in es) .rows
+  pub level : (j : Judgement) → Judging j → level-of w ≡ played lim j (fresh n ss) (asked-in es) .level
   pub counters : counted c ≡ record { length-is = length (rows-of w); level-is = level-of w }
   -- the stored bounds of every sentence
   pub bounds-are : (s : ℕ) → s < length ss → Bounded ss (trail (rows-of w)) (suc s) (unword (least-at w (record-at n s))) (unword (greatest-at w (record-at n s)))
