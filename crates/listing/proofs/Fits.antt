@@ -16,11 +16,11 @@ use Rattle.meaning.proofs.Gather.{each-map}
 use Rattle.book.specs.Rows.{Row, trail}
 use Rattle.book.specs.Table as table
 use Rattle.book.specs.Table.{Judged, propagate, bounds, report, paper, nobody, State, Outcome, ended, propagated, refusals, effect, reply, called}
-use Rattle.book.specs.Book.{JudgesAll, WellFormed}
+use Rattle.book.specs.Book.{WellFormed}
 use Rattle.book.specs.Means.{IsNumber}
 use Rattle.book.proofs.Judged.{all-judged, all-scoped}
 use Rattle.book.proofs.Number.{judges-length, judges-numbered, numbered-exists, numbered-each}
-use Rattle.book.specs.Sound.{Scoped, Sound}
+use Rattle.book.specs.Sound.{JudgesAll, Scoped, Sound}
 use Rattle.book.proofs.Sound.{consistent}
 use Rattle.book.specs.Sound as sound
 use Rattle.book.proofs.Few.{few-rows}

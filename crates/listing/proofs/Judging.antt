@@ -11,14 +11,13 @@ use borrow.Author.Tests.{eqb-true}
 use Rattle.types.specs.Limits.{base}
 use Rattle.meaning.specs.Meaning.{Sentence, Each}
 use Rattle.meaning.proofs.Gather.{each-map}
-use Rattle.book.specs.Rows.{Row}
 use Rattle.book.specs.Table as table
 use Rattle.book.specs.Table.{Judged, Call, give, propagate, bounds, report, paper, State, Outcome, reply, called}
-use Rattle.book.specs.Book.{JudgesAll, WellFormed}
+use Rattle.book.specs.Book.{WellFormed}
 use Rattle.book.proofs.Judged.{all-judged, all-scoped}
 use Rattle.book.proofs.Number.{judges-length}
-use Rattle.book.proofs.Same.{turn-same}
-use Rattle.book.specs.Sound.{Scoped, Sound}
+use Rattle.book.proofs.Same.{reply-same}
+use Rattle.book.specs.Sound.{JudgesAll, Scoped}
 use Rattle.columns.specs.Columns.{sentences-in}
 use Rattle.columns.specs.declared.Answer as load
 use Rattle.columns.specs.Refusals.{load-answer}
@@ -26,14 +25,9 @@ use Rattle.opb_text.specs.Text.{Constraint, taken, reading, rows-from, columns-
 use Rattle.answer_lines.specs.Lines.{stop-line}
 use Rattle.listing.specs.Output.{bound-line, row-lines, bound-lines, state-lines, listing, area-words, judged-sentences, heads-given, answered, printed, output}
 use Rattle.listing.proofs.Texts.{Taken, load-takes}
-use Rattle.listing.proofs.States.{standing, Standing, Levelled, book, asked, fitting, step}
+use Rattle.listing.proofs.States.{standing, Standing, Levelled, step}
 
 module _ (n : ℕ) (ss : List Sentence) (js js′ : List Judged) (w : Each (Scoped n) ss) (m : JudgesAll ss js) (m′ : JudgesAll ss js′) where
-  reply-same : (x : Call) (rs : List Row) → Sound n ss 0 rs → reply (standing n js rs) x ≡ reply (standing n js′ rs) x
-  reply-same x rs h =
-      ap (λ (q : State). reply q x) (sym (fitting n ss js rs)) ∙ turn-same base (book n ss rs) js js′ w m m′ h (asked n ss x rs)
-      ∙ ap (λ (q : State). reply q x) (fitting n ss js′ rs)
-
   -- the same rows, judged in the two ways
   record Alike (q q′ : State) : Type 0 where
     stands : Standing n ss js q
@@ -41,7 +35,7 @@ module _ (n : ℕ) (ss : List Sentence) (js js′ : List Judged) (w : Each (Scop
 
   answer-same : {q q′ : State} → Alike q q′ → (x : Call) → reply q x ≡ reply q′ x
   answer-same a x =
-      ap (λ (p : State). reply p x) (a .stands .state) ∙ reply-same x (a .stands .rows) (a .stands .sound) ∙ ap (λ (p : State). reply p x) (sym (a .other))
+      ap (λ (p : State). reply p x) (a .stands .state) ∙ reply-same n ss js js′ w m m′ false (base .levels) 0 (a .stands .rows) (a .stands .sound) x ∙ ap (λ (p : State). reply p x) (sym (a .other))
 
   next : {q q′ : State} → Alike q q′ → (x : Call) → Levelled x → Alike (called q x) (called q′ x)
   next {q} {q′} a x l =

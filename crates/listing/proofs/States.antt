@@ -1,20 +1,16 @@
 -- The states that the program goes through, for any judgement by full assignments: at level 0, with sound rows.
-use mathlib.Core.Path.{_≡_, refl, sym, ap, ap₂, subst}
-use mathlib.Core.Bool.{Bool, true, false, not, _&&_}
+use mathlib.Core.Path.{_≡_, refl, sym, ap, subst}
+use mathlib.Core.Bool.{false}
 use mathlib.Core.List.{List}
 use Prim.Native.Nat.{ℕ, zero, suc, _+_}
-use native.Mathlib.Omega.{arith}
-use lib.ListN.{length}
 use lib.IntN.{pos}
-use borrow.Author.Tests.{eq-eqb, le-leb}
 use Rattle.types.specs.Limits.{base}
 use Rattle.meaning.specs.Meaning.{Sentence, Each}
 use Rattle.book.specs.Rows.{Row}
 use Rattle.book.specs.Table as table
 use Rattle.book.specs.Table.{Judged, Call, give, State, Outcome, effect, reply, called}
-use Rattle.book.specs.Book.{JudgesAll, Book, Asked, need, book-state}
-use Rattle.book.specs.Sound.{Scoped, Sound}
-use Rattle.book.proofs.Keeps.{turn-sound}
+use Rattle.book.specs.Sound.{JudgesAll, Scoped, Sound}
+use Rattle.book.proofs.Keeps.{reply-sound}
 use Rattle.book.proofs.Tests.{reply-is}
 use Rattle.listing.specs.Output.{heads-given}
 
@@ -30,18 +26,6 @@ pub record Standing (n : ℕ) (ss : List Sentence) (js : List Judged) (q : State
 abbrev pub Levelled : Call → Type 0
 Levelled x = (q : State) → effect q x .level ≡ q .level
 
-abbrev pub book : ℕ → List Sentence → List Row → Book
-book n ss rs = record { atoms = n; sentences = ss; level = 0; rows = rs }
-
-abbrev pub asked : ℕ → List Sentence → Call → List Row → Asked
-asked n ss x rs = record { call = x; size = need n ss; counters = record { length-is = length rs; level-is = 0 } }
-
-module _ (n : ℕ) (ss : List Sentence) (js : List Judged) where
-  pub fitting : (rs : List Row) → book-state base js (book n ss rs) (need n ss) (record { length-is = length rs; level-is = 0 }) ≡ standing n js rs
-  fitting rs =
-      ap₂ (λ (a b : Bool). record { broken = not ((a && true) && b); atoms = n; levels = base .levels; sentences = js; level = 0; rows = rs })
-      (eq-eqb (length rs) (length rs) refl) (le-leb (need n ss) (need n ss) (omega arith))
-
 module _ (n : ℕ) (ss : List Sentence) (js : List Judged) (w : Each (Scoped n) ss) (m : JudgesAll ss js) where
   after : (x : Call) → Levelled x → (rs : List Row) → Sound n ss 0 rs → Standing n ss js (called (standing n js rs) x)
   after x l rs h =
@@ -50,8 +34,7 @@ module _ (n : ℕ) (ss : List Sentence) (js : List Judged) (w : Each (Scoped n) 
       record {
         rows = reply q x .rows;
         state = ap (λ (v : ℕ). record { broken = false; atoms = n; levels = base .levels; sentences = js; level = v; rows = reply q x .rows }) e;
-        sound = subst (λ (v : ℕ). Sound n ss v (reply q x .rows)) e
-            (subst (λ (s : State). Sound n ss (reply s x .level) (reply s x .rows)) (fitting n ss js rs) (turn-sound base js (book n ss rs) w m h (asked n ss x rs)));
+        sound = subst (λ (v : ℕ). Sound n ss v (reply q x .rows)) e (reply-sound false n (base .levels) ss js w m 0 rs h x);
       }
 
   pub step : (x : Call) → Levelled x → {q : State} → Standing n ss js q → Standing n ss js (called q x)

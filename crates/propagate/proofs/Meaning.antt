@@ -15,7 +15,8 @@ use Rattle.types.specs.declared.Limits.{Limits}
 use Rattle.meaning.specs.Meaning.{Assignment, Agrees, Consistent, Sentence, Each}
 use Rattle.book.specs.Rows.{Row, row, trail}
 use Rattle.book.specs.Table.{propagate, Paper, paper, Judged, State, Speech, nothing, objects, derives, speech, Stop, run, propagated, Outcome, ended, effect, reply, step}
-use Rattle.book.specs.Book.{Counters, JudgesAll}
+use Rattle.book.specs.Book.{Counters}
+use Rattle.book.specs.Sound.{JudgesAll}
 use Rattle.book.specs.Means.{SaysNothing, ForcesFirst, Speaker, Clashes, DerivedRow, DerivedRows, Additions}
 use Rattle.book.proofs.Number.{numbered-positive}
 use Rattle.book.proofs.Speech.{silent-of, conflict-of, derived-of}

@@ -11,7 +11,8 @@ use Rattle.meaning.specs.Meaning.{Sentence, Furthest, Each}
 use Rattle.meaning.specs.Merge.{Rule}
 use Rattle.book.specs.Rows.{trail}
 use Rattle.book.specs.Table.{bounds, report, between, reported, nobody, reply}
-use Rattle.book.specs.Book.{Counters, JudgesAll, judged-all, rules-of, WellFormed}
+use Rattle.book.specs.Book.{Counters, judged-all, rules-of, WellFormed}
+use Rattle.book.specs.Sound.{JudgesAll}
 use Rattle.book.proofs.Number.{numbered-exists, judges-numbered, judges-length}
 use Rattle.book.proofs.Tests.{both-told}
 use Rattle.book.proofs.Judged.{all-judged}
