@@ -2,13 +2,13 @@
 -- merged set has its value; and a rule read as a sentence depends only on the rule's own. So a satisfying assignment that gives the
 -- trail's literals of the scope can be turned to the whole trail.
 use mathlib.Core.Path.{_≡_, refl, sym, _∙_, ap, ap₂, subst}
-use mathlib.Core.Bool.{Bool, true, false, cond}
-use mathlib.Core.Logic.{_⊎_, inl, inr}
+use mathlib.Core.Bool.{Bool, true, cond}
+use mathlib.Core.Logic.{_⊎_, inl, inr, ⊎-elim}
 use mathlib.Core.List.{List, [], _∷_}
 use Prim.Native.Nat.{ℕ}
 use native.Mathlib.Decide.{ℕ-discrete}
 use lib.IntN.{ℤ}
-use lib.Dec.{T, eqb, eqb→eq, eqb-refl}
+use lib.Dec.{T, eqb, eqb→eq, eqb-refl, T-not}
 use Rattle.meaning.specs.Meaning.{Assignment, atom, truth, holds, Entry, chosen, aggregate, comparison, Sentence, Satisfied, Agrees, Consistent, Conflict, Forced, On}
 use Rattle.meaning.specs.Merge.{raised, merged-value, Rule, rule-of, places, scope, as-sentence}
 use Rattle.meaning.specs.Represents.{merged-comparison}
@@ -17,6 +17,7 @@ use Rattle.meaning.proofs.Trails.{truth-wanted, agrees-from}
 use Rattle.meaning.proofs.Stored.{satisfied-stored, satisfied-written}
 use Rattle.book.specs.Sound.{In, BlindOutside, Blind}
 use Rattle.book.specs.Means.{Among}
+use Rattle.book.proofs.Tests.{either}
 
 -- ---- where a merged set has the sentence's value
 
@@ -52,36 +53,22 @@ record Found (a : ℕ) (t ls : List ℤ) : Type 0 where
 pick-keeps : (t : List ℤ) (a : ℕ) (rest : List ℤ) (m : ℤ) → Among m rest → Among m (pick t a rest)
 unfolding pick
 pick-keeps [] a rest m h = h
-pick-keeps (l ∷ t) a rest m h = go (eqb (atom l) a) (pick-keeps t a rest m h)
-  where
-    go : (b : Bool) → Among m (pick t a rest) → Among m (cond b (l ∷ rest) (pick t a rest))
-    go true ih = inr h
-    go false ih = ih
+pick-keeps (l ∷ t) a rest m h = either (Among m) (eqb (atom l) a) (λ _. inr h) (λ _. pick-keeps t a rest m h)
 
 pick-finds : (t : List ℤ) (a : ℕ) (rest : List ℤ) → On a t → Found a t (pick t a rest)
 unfolding pick
 pick-finds [] a rest o = absurd o
 pick-finds (l ∷ t) a rest o =
-    go (eqb (atom l) a) (λ y. eqb→eq (atom l) a y) (λ e. subst (λ x. T (eqb (atom l) x)) e (eqb-refl (atom l))) o (λ k. pick-finds t a rest k)
-  where
-    go : (b : Bool) → (T b → atom l ≡ a) → (atom l ≡ a → T b) → (atom l ≡ a) ⊎ On a t → (On a t → Found a t (pick t a rest)) → Found a (l ∷ t) (cond b (l ∷ rest) (pick t a rest))
-    go true y z o ih = record { literal = l; there = inl refl; on = inl refl; is = y tt }
-    go false y z (inl q) ih = absurd (z q)
-    go false y z (inr k) ih = let x = ih k in record { literal = x .literal; there = x .there; on = inr (x .on); is = x .is }
+    either (Found a (l ∷ t)) (eqb (atom l) a) (λ y. record { literal = l; there = inl refl; on = inl refl; is = eqb→eq (atom l) a y })
+    (λ n. ⊎-elim (λ e. absurd (T-not (eqb (atom l) a) n (subst (λ x. T (eqb (atom l) x)) e (eqb-refl (atom l)))))
+    (λ k. let x = pick-finds t a rest k in record { literal = x .literal; there = x .there; on = inr (x .on); is = x .is }) o)
 
 pick-from : (t : List ℤ) (a : ℕ) (rest : List ℤ) (m : ℤ) → Among m (pick t a rest) → Among m t ⊎ Among m rest
 unfolding pick
 pick-from [] a rest m h = inr h
-pick-from (l ∷ t) a rest m h = go (eqb (atom l) a) h (λ k. pick-from t a rest m k)
-  where
-    wider : Among m t ⊎ Among m rest → Among m (l ∷ t) ⊎ Among m rest
-    wider (inl x) = inl (inr x)
-    wider (inr x) = inr x
-
-    go : (b : Bool) → Among m (cond b (l ∷ rest) (pick t a rest)) → (Among m (pick t a rest) → Among m t ⊎ Among m rest) → Among m (l ∷ t) ⊎ Among m rest
-    go true (inl e) ih = inl (inl e)
-    go true (inr k) ih = inr k
-    go false k ih = wider (ih k)
+pick-from (l ∷ t) a rest m h =
+    either (λ xs. Among m xs → Among m (l ∷ t) ⊎ Among m rest) (eqb (atom l) a) (λ _. ⊎-elim (λ e. inl (inl e)) inr)
+    (λ _ k. ⊎-elim (λ x. inl (inr x)) inr (pick-from t a rest m k)) h
 
 causes-find : (t : List ℤ) (a : ℕ) (sc : List ℕ) → In a sc → On a t → Found a t (causes t sc)
 unfolding causes
@@ -94,11 +81,7 @@ causes-find t a (b ∷ bs) (inr h) o =
 pub causes-from : (t : List ℤ) (sc : List ℕ) (m : ℤ) → Among m (causes t sc) → Among m t
 unfolding causes
 causes-from t [] m h = absurd h
-causes-from t (b ∷ bs) m h = go (pick-from t b (causes t bs) m h) (λ k. causes-from t bs m k)
-  where
-    go : Among m t ⊎ Among m (causes t bs) → (Among m (causes t bs) → Among m t) → Among m t
-    go (inl x) ih = x
-    go (inr x) ih = ih x
+causes-from t (b ∷ bs) m h = ⊎-elim (λ x. x) (causes-from t bs m) (pick-from t b (causes t bs) m h)
 
 -- ---- an assignment turned to the trail
 

@@ -1,12 +1,12 @@
 -- An explanation is a clause that its sentence alone entails: an assignment that satisfies the sentence gives the literal, or makes a
 -- cause false. The causes stand on the trail, so the clause's other literals are false there.
 use mathlib.Core.Path.{_≡_, refl, sym, _∙_, ap, subst}
-use mathlib.Core.Bool.{Bool, true, false, not, cond}
-use mathlib.Core.Logic.{_⊎_, inl, inr}
+use mathlib.Core.Bool.{Bool, true, false, not}
+use mathlib.Core.Logic.{_⊎_, inl, inr, ⊎-elim}
 use mathlib.Core.List.{List, [], _∷_, map}
 use Prim.Native.Nat.{ℕ, zero, suc, _≤_}
 use lib.IntN.{ℤ, negℤ, negℤ-negℤ}
-use lib.Dec.{T}
+use lib.Dec.{T-not}
 use Rattle.meaning.specs.Meaning.{Assignment, atom, holds, same, Sentence, Agrees, Consistent, Conflict, Forced, Each}
 use Rattle.meaning.specs.Merge.{rule-of, scope}
 use Rattle.book.specs.Rows.{Row, trail, causes, Standpoint, row-of, numbered, explanation, conflict-explanation}
@@ -18,6 +18,7 @@ use Rattle.book.specs.Sound.{JudgesAll, none, more, In, Reasoned, Sits, 
 use Rattle.book.proofs.Number.{numbered-each}
 use Rattle.book.proofs.Sound.{consistent}
 use Rattle.book.proofs.Blind.{causes-from, forced-by-causes, conflict-by-causes}
+use Rattle.book.proofs.Tests.{either}
 
 -- ---- negations
 
@@ -45,18 +46,10 @@ module _ {sc : List ℕ} (s : Sentence) (blind : BlindOutside sc s) (t : List �
   decide σ = all-or-some σ reasons (λ l a. literals l (causes-from t sc l a))
 
   conflict-clause : Conflict s t → EntailedBy s (map negℤ reasons)
-  conflict-clause no-way σ sat = go (decide σ)
-    where
-      go : Agrees σ reasons ⊎ Some (λ m. holds σ m ≡ true) (map negℤ reasons) → Some (λ m. holds σ m ≡ true) (map negℤ reasons)
-      go (inl g) = absurd (conflict-by-causes s blind t c σ sat g no-way)
-      go (inr x) = x
+  conflict-clause no-way σ sat = ⊎-elim (λ g. absurd (conflict-by-causes s blind t c σ sat g no-way)) (λ x. x) (decide σ)
 
   derived-clause : (l : ℤ) → In (atom l) sc → Forced s t l → EntailedBy s (l ∷ map negℤ reasons)
-  derived-clause l inside f σ sat = go (decide σ)
-    where
-      go : Agrees σ reasons ⊎ Some (λ m. holds σ m ≡ true) (map negℤ reasons) → Some (λ m. holds σ m ≡ true) (l ∷ map negℤ reasons)
-      go (inl g) = inl (forced-by-causes s blind t c σ sat g l inside f)
-      go (inr x) = inr x
+  derived-clause l inside f σ sat = ⊎-elim (λ g. inl (forced-by-causes s blind t c σ sat g l inside f)) inr (decide σ)
 
 -- ---- the row of a literal
 
@@ -71,13 +64,8 @@ module _ (n : ℕ) (ss : List Sentence) where
   unfolding row-of
   row-of-sound v [] l h a = absurd a
   row-of-sound v (r ∷ rs) l h a =
-      go (same (r .literal) l) (λ y. same→eq (r .literal) l y) (λ e. subst (λ x. T (same (r .literal) x)) (sym e) (eq→same (r .literal) (r .literal) refl)) a (λ k. row-of-sound (r .level) rs l (h .1) k)
-    where
-      go : (b : Bool) → (T b → r .literal ≡ l) → (l ≡ r .literal → T b) → (l ≡ r .literal) ⊎ Among l (trail rs) → (Among l (trail rs) → RowSound l (row-of l rs))
-          → RowSound l (cond b (record { mine = r; before = rs }) (row-of l rs))
-      go true y z a ih = record { literal-is = y tt; level = v; sits = h .0; sound = h .1 }
-      go false y z (inl e) ih = absurd (z e)
-      go false y z (inr k) ih = ih k
+      either (RowSound l) (same (r .literal) l) (λ y. record { literal-is = same→eq (r .literal) l y; level = v; sits = h .0; sound = h .1 })
+      (λ n. ⊎-elim (λ e. absurd (T-not (same (r .literal) l) n (eq→same (r .literal) l (sym e)))) (row-of-sound (r .level) rs l (h .1)) a)
 
   trail-within : (v : ℕ) (rs : List Row) (l : ℤ) → Sound n ss v rs → Among l (trail rs) → 1 ≤ atom l
   trail-within v [] l h a = absurd a
@@ -137,8 +125,4 @@ module _ (n : ℕ) (ss : List Sentence) (js : List Judged) (blind : Each Blind s
         }
 
     pub explained : ¬ (row-of l rows .mine .reason ≡ 0) → Explains ss rows l (explanation (scopes js) rows l)
-    explained given = go (row-of-sound n ss v rows l h a .sits .reason-is)
-      where
-        go : (mine .reason ≡ 0) ⊎ Reasoned n ss mine before → Explains ss rows l (explanation (scopes js) rows l)
-        go (inl z) = absurd (given z)
-        go (inr z) = reasoned-clause z
+    explained given = ⊎-elim (λ z. absurd (given z)) reasoned-clause (row-of-sound n ss v rows l h a .sits .reason-is)

@@ -1,17 +1,17 @@
 -- No more rows than atoms: the rows are of atoms 1 to N, each once. By induction on N: leaving out one atom shortens a list of different
 -- atoms by at most one.
-use mathlib.Core.Path.{_≡_, refl, sym, _∙_, ap}
-use mathlib.Core.Bool.{Bool, true, false, cond}
+use mathlib.Core.Path.{_≡_, refl, sym, _∙_, ap, subst}
+use mathlib.Core.Bool.{cond, not}
 use mathlib.Core.Logic.{inl, inr}
 use mathlib.Core.List.{List, [], _∷_}
 use Prim.Native.Nat.{ℕ, zero, suc, _≤_}
 use native.Mathlib.Omega.{arith}
 use lib.ListN.{length}
-use lib.Dec.{T, eqb, eqb→eq}
-use borrow.Author.Tests.{eqb-false}
+use lib.Dec.{T, eqb, eqb→eq, T-not, eqb-refl}
 use Rattle.meaning.specs.Meaning.{atom, Sentence, On, Each}
 use Rattle.book.specs.Rows.{Row, trail}
 use Rattle.book.specs.Sound.{Within, Sound}
+use Rattle.book.proofs.Tests.{either}
 
 abbrev pub Off : ℕ → List ℕ → Type 0
 Off a bs = Each (λ b. ¬ (b ≡ a)) bs
@@ -26,50 +26,32 @@ without a (b ∷ bs) = cond (eqb a b) (without a bs) (b ∷ without a bs)
 
 without-off : (a : ℕ) (bs : List ℕ) → Off a bs → without a bs ≡ bs
 without-off a [] h = refl
-without-off a (b ∷ bs) h = go (eqb a b) (λ t. h .0 (sym (eqb→eq a b t))) ∙ ap (λ x. b ∷ x) (without-off a bs (h .1))
-  where
-    go : (c : Bool) → ¬ (T c) → cond c (without a bs) (b ∷ without a bs) ≡ b ∷ without a bs
-    go true n = absurd (n tt)
-    go false n = refl
+without-off a (b ∷ bs) h =
+    either (λ xs. xs ≡ b ∷ without a bs) (eqb a b) (λ t. absurd (h .0 (sym (eqb→eq a b t)))) (λ _. refl) ∙ ap (λ x. b ∷ x) (without-off a bs (h .1))
 
-module _ (P : ℕ → Type 0) where
-  without-each : (a : ℕ) (bs : List ℕ) → Each P bs → Each P (without a bs)
-  without-each a [] h = tt
-  without-each a (b ∷ bs) h = go (eqb a b) (without-each a bs (h .1))
-    where
-      go : (c : Bool) → Each P (without a bs) → Each P (cond c (without a bs) (b ∷ without a bs))
-      go true ih = ih
-      go false ih = (h .0, ih)
+without-each : (P : ℕ → Type 0) (a : ℕ) (bs : List ℕ) → Each P bs → Each P (without a bs)
+without-each P a [] h = tt
+without-each P a (b ∷ bs) h = either (Each P) (eqb a b) (λ _. without-each P a bs (h .1)) (λ _. (h .0, without-each P a bs (h .1)))
 
 without-distinct : (a : ℕ) (bs : List ℕ) → Distinct bs → Distinct (without a bs)
 without-distinct a [] h = tt
-without-distinct a (b ∷ bs) h = go (eqb a b) (without-distinct a bs (h .1))
-  where
-    go : (c : Bool) → Distinct (without a bs) → Distinct (cond c (without a bs) (b ∷ without a bs))
-    go true ih = ih
-    go false ih = (without-each (λ x. ¬ (x ≡ b)) a bs (h .0), ih)
+without-distinct a (b ∷ bs) h =
+    let ih = without-distinct a bs (h .1) in
+    either Distinct (eqb a b) (λ _. ih) (λ _. (without-each (λ x. ¬ (x ≡ b)) a bs (h .0), ih))
 
 without-length : (a : ℕ) (bs : List ℕ) → Distinct bs → length bs ≤ suc (length (without a bs))
 without-length a [] h = omega arith
-without-length a (b ∷ bs) h = go (eqb a b) (λ t. eqb→eq a b t) (without-length a bs (h .1))
-  where
-    go : (c : Bool) → (T c → a ≡ b) → length bs ≤ suc (length (without a bs)) → suc (length bs) ≤ suc (length (cond c (without a bs) (b ∷ without a bs)))
-    go true e ih =
-        let q : without a bs ≡ bs = ap (λ x. without x bs) (e tt) ∙ without-off b bs (h .0) in
-        let r : length (without a bs) ≡ length bs = ap length q in omega (arith, r)
-    go false e ih = omega (arith, ih)
+without-length a (b ∷ bs) h =
+    either (λ xs. suc (length bs) ≤ suc (length xs)) (eqb a b)
+    (λ t. omega (arith, ap length (ap (λ x. without x bs) (eqb→eq a b t) ∙ without-off b bs (h .0)))) (λ _. omega (arith, without-length a bs (h .1)))
 
 -- without suc n, within suc n is within n
 below-top : (n : ℕ) (bs : List ℕ) → Each (Within (suc n)) bs → Each (Within n) (without (suc n) bs)
 below-top n [] h = tt
-below-top n (b ∷ bs) h = go (eqb (suc n) b) (λ e. eqb-false (suc n) b e) (below-top n bs (h .1))
-  where
-    go : (c : Bool) → (c ≡ false → ¬ (suc n ≡ b)) → Each (Within n) (without (suc n) bs) → Each (Within n) (cond c (without (suc n) bs) (b ∷ without (suc n) bs))
-    go true e ih = ih
-    go false e ih =
-        let d : ¬ (suc n ≡ b) = e refl in
-        let high = h .0 .1 in
-        ((h .0 .0, omega (arith, high, d)), ih)
+below-top n (b ∷ bs) h =
+    let ih = below-top n bs (h .1) in
+    let other : T (not (eqb (suc n) b)) → ¬ (suc n ≡ b) = λ t e. T-not (eqb (suc n) b) t (subst (λ x. T (eqb (suc n) x)) e (eqb-refl (suc n))) in
+    either (Each (Within n)) (eqb (suc n) b) (λ _. ih) (λ t. ((h .0 .0, omega (arith, h .0 .1, other t)), ih))
 
 pub few : (n : ℕ) (bs : List ℕ) → Each (Within n) bs → Distinct bs → length bs ≤ n
 few zero [] h d = omega arith

@@ -2,12 +2,13 @@
 -- trail has none twice.
 use mathlib.Core.Path.{_≡_, refl, sym, subst}
 use mathlib.Core.Bool.{Bool, true, false, cond}
-use mathlib.Core.Logic.{_⊎_, inl, inr}
+use mathlib.Core.Logic.{_⊎_, inl, inr, ⊎-elim}
 use mathlib.Core.List.{List, [], _∷_, _++_, reverse, reverse-cons}
 use lib.IntN.{ℤ}
 use lib.Dec.{T}
 use Rattle.book.specs.Rows.{in-order}
 use Rattle.book.specs.Means.{Among, NoTwice, Subsequence, ends, takes, skips}
+use Rattle.book.proofs.Tests.{either}
 
 -- ---- one literal more at the end
 
@@ -15,11 +16,7 @@ among-end : (o l : ℤ) (xs : List ℤ) → Among o (xs ++ (l ∷ [])) → Among
 among-end o l [] (inl e) = inr e
 among-end o l [] (inr x) = absurd x
 among-end o l (y ∷ ys) (inl e) = inl (inl e)
-among-end o l (y ∷ ys) (inr x) = wider (among-end o l ys x)
-  where
-    wider : Among o ys ⊎ (o ≡ l) → Among o (y ∷ ys) ⊎ (o ≡ l)
-    wider (inl z) = inl (inr z)
-    wider (inr z) = inr z
+among-end o l (y ∷ ys) (inr x) = ⊎-elim (λ z. inl (inr z)) inr (among-end o l ys x)
 
 among-front : (o l : ℤ) (xs : List ℤ) → Among o xs → Among o (xs ++ (l ∷ []))
 among-front o l [] x = absurd x
@@ -35,18 +32,10 @@ among-last l (y ∷ ys) = inr (among-last l ys)
 pub order-from : (p : ℤ → Bool) (t : List ℤ) (o : ℤ) → Among o (in-order p t) → Among o t × T (p o)
 unfolding in-order
 order-from p [] o h = absurd h
-order-from p (l ∷ t) o h = go (p l) (λ y. y) h (λ k. order-from p t o k)
-  where
-    wider : Among o t × T (p o) → Among o (l ∷ t) × T (p o)
-    wider x = (inr (x .0), x .1)
-
-    split : T (p l) → (Among o (in-order p t) → Among o t × T (p o)) → Among o (in-order p t) ⊎ (o ≡ l) → Among o (l ∷ t) × T (p o)
-    split y ih (inl k) = wider (ih k)
-    split y ih (inr e) = (inl e, subst (λ x. T (p x)) (sym e) y)
-
-    go : (b : Bool) → (T b → T (p l)) → Among o (cond b (in-order p t ++ (l ∷ [])) (in-order p t)) → (Among o (in-order p t) → Among o t × T (p o)) → Among o (l ∷ t) × T (p o)
-    go true y h ih = split (y tt) ih (among-end o l (in-order p t) h)
-    go false y h ih = wider (ih h)
+order-from p (l ∷ t) o h =
+    let wider : Among o (in-order p t) → Among o (l ∷ t) × T (p o) = λ k. let x = order-from p t o k in (inr (x .0), x .1) in
+    either (λ xs. Among o xs → Among o (l ∷ t) × T (p o)) (p l)
+    (λ y k. ⊎-elim wider (λ e. (inl e, subst (λ x. T (p x)) (sym e) y)) (among-end o l (in-order p t) k)) (λ _. wider) h
 
 pub order-all : (p : ℤ → Bool) (t : List ℤ) (o : ℤ) → Among o t → T (p o) → Among o (in-order p t)
 unfolding in-order
@@ -63,20 +52,15 @@ order-all p (l ∷ t) o a h = go (p l) (λ e. subst (λ x. T (p x)) e h) a (λ k
 
 no-twice-end : (l : ℤ) (xs : List ℤ) → ¬ (Among l xs) → NoTwice xs → NoTwice (xs ++ (l ∷ []))
 no-twice-end l [] n d = ((λ x. x), tt)
-no-twice-end l (x ∷ xs) n d = ((λ k. go (among-end x l xs k)), no-twice-end l xs (λ k. n (inr k)) (d .1))
-  where
-    go : ¬ (Among x xs ⊎ (x ≡ l))
-    go (inl k) = d .0 k
-    go (inr e) = n (inl (sym e))
+no-twice-end l (x ∷ xs) n d =
+    ((λ k. ⊎-elim (d .0) (λ e. n (inl (sym e))) (among-end x l xs k)), no-twice-end l xs (λ k. n (inr k)) (d .1))
 
 pub order-no-twice : (p : ℤ → Bool) (t : List ℤ) → NoTwice t → NoTwice (in-order p t)
 unfolding in-order
 order-no-twice p [] d = tt
-order-no-twice p (l ∷ t) d = go (p l) (order-no-twice p t (d .1))
-  where
-    go : (b : Bool) → NoTwice (in-order p t) → NoTwice (cond b (in-order p t ++ (l ∷ [])) (in-order p t))
-    go true ih = no-twice-end l (in-order p t) (λ k. d .0 (order-from p t l k .0)) ih
-    go false ih = ih
+order-no-twice p (l ∷ t) d =
+    let ih = order-no-twice p t (d .1) in
+    either NoTwice (p l) (λ _. no-twice-end l (in-order p t) (λ k. d .0 (order-from p t l k .0)) ih) (λ _. ih)
 
 -- ---- in the order of the trail
 
@@ -93,8 +77,7 @@ skip-end l (skips s) = skips (skip-end l s)
 pub order-ordered : (p : ℤ → Bool) (t : List ℤ) → Subsequence (in-order p t) (reverse t)
 unfolding in-order
 order-ordered p [] = ends
-order-ordered p (l ∷ t) = subst (Subsequence (in-order p (l ∷ t))) (sym (reverse-cons l t)) (go (p l) (order-ordered p t))
-  where
-    go : (b : Bool) → Subsequence (in-order p t) (reverse t) → Subsequence (cond b (in-order p t ++ (l ∷ [])) (in-order p t)) (reverse t ++ (l ∷ []))
-    go true ih = take-end l ih
-    go false ih = skip-end l ih
+order-ordered p (l ∷ t) =
+    let ih = order-ordered p t in
+    subst (Subsequence (in-order p (l ∷ t))) (sym (reverse-cons l t))
+    (either (λ xs. Subsequence xs (reverse t ++ (l ∷ []))) (p l) (λ _. take-end l ih) (λ _. skip-end l ih))

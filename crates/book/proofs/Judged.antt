@@ -5,7 +5,7 @@ use mathlib.Core.List.{List, [], _∷_, map}
 use Prim.Native.Nat.{ℕ, _≤_}
 use Rattle.numbers.specs.Extended.{up, down}
 use Rattle.meaning.specs.Meaning.{place, Sentence, Each}
-use Rattle.meaning.specs.Merge.{merge, rule-of}
+use Rattle.meaning.specs.Merge.{merge}
 use Rattle.meaning.proofs.Merging.{merge-represents}
 use Rattle.meaning.proofs.Members.{each-both, merge-places}
 use Rattle.meaning.proofs.Gather.{each-map}

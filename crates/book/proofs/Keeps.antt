@@ -1,7 +1,7 @@
 -- Each call keeps the rows of a book sound. A refused call and a report change nothing; what is given, taken back or derived keeps them,
 -- and so does a search, whose literals are all of atoms and are given only where they are open.
 use mathlib.Core.Path.{_≡_, refl}
-use mathlib.Core.Bool.{Bool, true, false, not, cond, _&&_}
+use mathlib.Core.Bool.{Bool, not, _&&_}
 use mathlib.Core.List.{List, [], _∷_, map}
 use Prim.Native.Nat.{ℕ, zero, suc, _+_}
 use native.Mathlib.Omega.{arith}
@@ -10,13 +10,13 @@ use lib.Dec.{T, T-not, leb→le, leb}
 use Rattle.meaning.specs.Meaning.{atom, Sentence, Each}
 use Rattle.types.specs.declared.Limits.{Limits}
 use Rattle.book.specs.Rows.{Row, row, trail, any}
-use Rattle.book.specs.Table.{Judged, State, Outcome, Step, give, open-level, take-back, propagate, search, Call, step, report, Speech, nothing, objects, derives, speech, Stop, run, propagated, no-atom, on-trail, step-refusals, refusals, End, end, apart, put-on, propagating, following, turning, tried, trying, searching, step-effect, effect, reply}
+use Rattle.book.specs.Table.{Judged, State, Outcome, Step, give, open-level, take-back, propagate, search, Call, step, report, Speech, nothing, objects, derives, speech, Stop, run, propagated, no-atom, on-trail, step-refusals, refusals, End, apart, put-on, turning, tried, trying, searching, step-effect, effect, reply}
 use Rattle.book.specs.Book.{WellFormed, Judgement, Judging, Book, need, Asked, fits, turned, played, reach}
 use Rattle.book.proofs.Judged.{all-judging, all-scoped}
 use Rattle.book.proofs.Speech.{derived-of}
 use Rattle.book.specs.Sound.{JudgesAll, Within, Scoped, Sound, SoundBook}
 use Rattle.book.proofs.Sound.{consistent, sound-higher, up-to-sound, give-sound, derive-sound}
-use Rattle.book.proofs.Tests.{on-tells, both-told, none-first, none-rest, Passed, reply-is}
+use Rattle.book.proofs.Tests.{either, on-tells, both-told, none-first, none-rest, Passed, reply-is}
 
 -- a step of propagate, by what is said
 abbrev pub next : List Judged → (level steps : ℕ) → List Row → Speech → Stop
@@ -42,6 +42,11 @@ atom-told n l t = let i = both-told (leb 1 (atom l)) (leb (atom l) n) t in (leb�
 abbrev pub state-at : Bool → (atoms levels : ℕ) → List Judged → ℕ → List Row → State
 state-at x n top js v rs = record { broken = x; atoms = n; levels = top; sentences = js; level = v; rows = rs }
 
+-- a turn that goes on, or ends
+pub apart-is : (P : End → Type 0) (k : ℕ) {e on : End} → P on → P e → P (apart k e on)
+apart-is P zero f g = f
+apart-is P (suc k) f g = g
+
 module _ (x : Bool) (n top : ℕ) (ss : List Sentence) (js : List Judged) (w : Each (Scoped n) ss) (m : JudgesAll ss js) where
   abbrev here : ℕ → List Row → State
   here v rs = state-at x n top js v rs
@@ -61,30 +66,20 @@ module _ (x : Bool) (n top : ℕ) (ss : List Sentence) (js : List Judged) (w : E
 
   turning-sound : (d g v : ℕ) (rs : List Row) (on : State → ℕ → End) → Sound n ss v rs
       → ((rs′ : List Row) (e : ℕ) → Sound n ss v rs′ → Ends (on (here v rs′) e)) → Ends (turning (here v rs) d g on)
-  turning-sound d g v rs on h f = go (propagated (here v rs) .sentence)
-    where
-      go : (k : ℕ) → Ends (apart k (end (propagated (here v rs) .sentence) (d + put-on (here v rs)) g (following (here v rs) (propagating (here v rs)))) (on (following (here v rs) (propagating (here v rs))) (d + put-on (here v rs))))
-      go zero = f (propagated (here v rs) .rows) (d + put-on (here v rs)) (propagated-sound v rs h)
-      go (suc k) = propagated-sound v rs h
+  turning-sound d g v rs on h f =
+      apart-is Ends (propagated (here v rs) .sentence) (f (propagated (here v rs) .rows) (d + put-on (here v rs)) (propagated-sound v rs h)) (propagated-sound v rs h)
 
   trying-sound : (ls : List ℤ) (d g v : ℕ) (rs : List Row) → T (not (any (no-atom (here v rs)) ls)) → Sound n ss v rs → Ends (trying (here v rs) d g ls)
   unfolding trying
   trying-sound [] d g v rs t h = h
   trying-sound (l ∷ ls) d g v rs t h =
-      go (on-trail (here v rs) (atom l)) (leb top v) (λ o. o)
-      (trying-sound ls d (suc g) v rs (none-rest (no-atom (here v rs)) l ls t) h)
-      (λ rs′ e k. trying-sound ls e (suc g) (suc v) rs′ (none-rest (no-atom (here v rs)) l ls t) k)
-    where
-      go : (on high : Bool) → (T (not on) → T (not (on-trail (here v rs) (atom l)))) → Ends (trying (here v rs) d (suc g) ls)
-          → ((rs′ : List Row) (e : ℕ) → Sound n ss (suc v) rs′ → Ends (trying (here (suc v) rs′) e (suc g) ls))
-          → Ends (cond on (trying (here v rs) d (suc g) ls) (cond high (end 0 d g (here v rs)) (turning (tried (here v rs) l) d (suc g) (λ p e. trying p e (suc g) ls))))
-      go true high o past on = past
-      go false true o past on = h
-      go false false o past on =
-          turning-sound d (suc g) (suc v) (row l (suc v) 0 ∷ rs) (λ p e. trying p e (suc g) ls)
-          (tried-sound v rs l (atom-told n l (none-first (no-atom (here v rs)) l ls t)) (o tt) h) on
+      let rest = none-rest (no-atom (here v rs)) l ls t in
+      either Ends (on-trail (here v rs) (atom l)) (λ _. trying-sound ls d (suc g) v rs rest h)
+      (λ o. either Ends (leb top v) (λ _. h)
+      (λ _. turning-sound d (suc g) (suc v) (row l (suc v) 0 ∷ rs) (λ p e. trying p e (suc g) ls)
+      (tried-sound v rs l (atom-told n l (none-first (no-atom (here v rs)) l ls t)) o h) (λ rs′ e k. trying-sound ls e (suc g) (suc v) rs′ rest k)))
 
-  pub searching-sound : (ls : List ℤ) (v : ℕ) (rs : List Row) → T (not (any (no-atom (here v rs)) ls)) → Sound n ss v rs → Ends (searching (here v rs) ls)
+  searching-sound : (ls : List ℤ) (v : ℕ) (rs : List Row) → T (not (any (no-atom (here v rs)) ls)) → Sound n ss v rs → Ends (searching (here v rs) ls)
   searching-sound ls v rs t h = turning-sound 0 0 v rs (λ p e. trying p e 0 ls) h (λ rs′ e k. trying-sound ls e 0 v rs′ t k)
 
   -- ---- each call
@@ -115,11 +110,6 @@ module _ (lim : Limits) (j : Judgement) (m : Judging j) where
   turn-sound b w h a =
       reply-sound (not (fits b (a .size) (a .counters))) (b .atoms) (lim .levels) (b .sentences) (map j (b .sentences)) (all-scoped (b .atoms) (b .sentences) w)
       (all-judging (b .atoms) j m (b .sentences) w) (b .level) (b .rows) h (a .call)
-
-  pub played-sound : (b : Book) → Each (WellFormed (b .atoms)) (b .sentences) → SoundBook b → (xs : List Asked) → SoundBook (played lim j b xs)
-  unfolding played
-  played-sound b w h [] = h
-  played-sound b w h (x ∷ xs) = played-sound (turned lim j b x) w (turn-sound b w h x) xs
 
 -- ---- these calls leave the sentences as they are, so that the book needs as many words as at first
 

@@ -11,7 +11,7 @@ use Rattle.meaning.specs.Meaning.{atom}
 use Rattle.book.specs.Rows.{Row, row, any}
 use Rattle.book.specs.Table.{Step, give, open-level, propagate, search, step, refused, paper, Judged, State, propagated, no-atom, on-trail, Outcome, unchanged, ended, giving, opening, put-on, propagating, following, End, end, apart, turning, tried, trying, searching, search-ended, effect, reply}
 use Rattle.book.specs.Made.{at-still, propagate-then, made-next, called-all, Taken, AllTaken, Makes}
-use Rattle.book.proofs.Tests.{none-first, none-rest}
+use Rattle.book.proofs.Tests.{either₂, none-first, none-rest}
 use Rattle.book.proofs.Keeps.{state-at}
 
 -- the calls are taken, and lead from one state to the other
@@ -77,25 +77,16 @@ module _ (n top : ℕ) (js : List Judged) where
   unfolding trying made-next
   trying-made [] d g v rs t = (tt, refl)
   trying-made (l ∷ ls) d g v rs t =
-      go (on-trail (here v rs) (atom l)) (leb top v) refl refl
-      (trying-made ls d (suc g) v rs (none-rest (no-atom (here v rs)) l ls t))
-      (λ rs′ e. trying-made ls e (suc g) (suc v) rs′ (none-rest (no-atom (here v rs)) l ls t))
-    where
-      go : (on high : Bool) → on-trail (here v rs) (atom l) ≡ on → leb top v ≡ high
-          → Leads (here v rs) (made-next (here v rs) ls) (ended-at (trying (here v rs) d (suc g) ls))
-          → ((rs′ : List Row) (e : ℕ) → Leads (here (suc v) rs′) (made-next (here (suc v) rs′) ls) (ended-at (trying (here (suc v) rs′) e (suc g) ls)))
-          → Leads (here v rs)
-          (cond on (made-next (here v rs) ls) (cond high [] (open-level ∷ give l ∷ propagate-then (tried (here v rs) l) (λ p. made-next p ls))))
-          (ended-at (cond on (trying (here v rs) d (suc g) ls) (cond high (end 0 d g (here v rs)) (turning (tried (here v rs) l) d (suc g) (λ p e. trying p e (suc g) ls)))))
-      go true high e f past on = past
-      go false true e f past on = (tt, refl)
-      go false false e f past on =
-          let goal = ended-at (turning (tried (here v rs) l) d (suc g) (λ p e. trying p e (suc g) ls)) in
-          let turn = propagate-then (tried (here v rs) l) (λ p. made-next p ls) in
-          leads-on (here v rs) open-level (opening (here v rs)) (give l ∷ turn) goal (open-taken v rs f) refl
-          (leads-on (here (suc v) rs) (give l) (giving (here (suc v) rs) l) turn goal
-          (give-taken (suc v) rs l (not-true (no-atom (here v rs) l) (none-first (no-atom (here v rs)) l ls t)) e) refl
-          (turning-made d (suc g) (suc v) (row l (suc v) 0 ∷ rs) (λ p e. trying p e (suc g) ls) (λ p. made-next p ls) on))
+      let rest = none-rest (no-atom (here v rs)) l ls t in
+      let goal = ended-at (turning (tried (here v rs) l) d (suc g) (λ p e. trying p e (suc g) ls)) in
+      let turn = propagate-then (tried (here v rs) l) (λ p. made-next p ls) in
+      either₂ (λ xs e. Leads (here v rs) xs (ended-at e)) (on-trail (here v rs) (atom l)) (λ _. trying-made ls d (suc g) v rs rest)
+      (λ off. either₂ (λ xs e. Leads (here v rs) xs (ended-at e)) (leb top v) (λ _. (tt, refl))
+      (λ low. leads-on (here v rs) open-level (opening (here v rs)) (give l ∷ turn) goal (open-taken v rs (not-true (leb top v) low)) refl
+      (leads-on (here (suc v) rs) (give l) (giving (here (suc v) rs) l) turn goal
+      (give-taken (suc v) rs l (not-true (no-atom (here v rs) l) (none-first (no-atom (here v rs)) l ls t)) (not-true (on-trail (here v rs) (atom l)) off)) refl
+      (turning-made d (suc g) (suc v) (row l (suc v) 0 ∷ rs) (λ p e. trying p e (suc g) ls) (λ p. made-next p ls)
+      (λ rs′ e. trying-made ls e (suc g) (suc v) rs′ rest)))))
 
   -- ---- the search
 

@@ -1,5 +1,5 @@
 -- The elements of a list by their numbers, counted from 1, and the atoms of a list. Each judgement has its sentence's number.
-use mathlib.Core.Path.{_≡_, refl, sym, _∙_, ap, subst}
+use mathlib.Core.Path.{_≡_, refl, ap, subst}
 use mathlib.Core.Logic.{inl, inr}
 use mathlib.Core.List.{List, [], _∷_}
 use Prim.Native.Nat.{ℕ, zero, suc, _≤_}
@@ -13,12 +13,6 @@ use Rattle.book.specs.Means.{IsNumber}
 use Rattle.book.specs.Sound.{In, JudgesAll, none, more}
 
 module _ {A : Type 0} where
-  pub numbered-one : (k : ℕ) (xs : List A) (x y : A) → IsNumber k xs x → IsNumber k xs y → x ≡ y
-  numbered-one k [] x y h g = absurd h
-  numbered-one zero (z ∷ zs) x y h g = absurd h
-  numbered-one (suc zero) (z ∷ zs) x y h g = sym h ∙ g
-  numbered-one (suc (suc k)) (z ∷ zs) x y h g = numbered-one (suc k) zs x y h g
-
   pub numbered-each : (P : A → Type 0) (k : ℕ) (xs : List A) (x : A) → IsNumber k xs x → Each P xs → P x
   numbered-each P k [] x h e = absurd h
   numbered-each P zero (z ∷ zs) x h e = absurd h

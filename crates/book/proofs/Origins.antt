@@ -2,7 +2,7 @@
 -- induction over the rows, since a derived literal follows from its causes, which stand before it.
 use mathlib.Core.Path.{_≡_, refl, sym, _∙_, ap, subst}
 use mathlib.Core.Bool.{Bool, true, false, cond}
-use mathlib.Core.Logic.{_⊎_, inl, inr}
+use mathlib.Core.Logic.{_⊎_, inl, inr, ⊎-elim}
 use mathlib.Core.List.{List, [], _∷_}
 use Prim.Native.Nat.{ℕ}
 use native.Mathlib.Omega.{arith}
@@ -17,7 +17,7 @@ use Rattle.meaning.proofs.Orders.{is-true, is-false}
 use Rattle.meaning.proofs.Members.{same→eq, eq→same}
 use Rattle.book.proofs.Number.{numbered-each, numbered-positive}
 use Rattle.book.specs.Means.{Among, NoTwice, GivenNoLater, OriginList}
-use Rattle.book.proofs.Tests.{among-on, any-told, any-tells}
+use Rattle.book.proofs.Tests.{either, either₂, among-on, any-told, any-tells}
 use Rattle.book.specs.Sound.{JudgesAll, Reasoned, Sound, Blind}
 use Rattle.book.proofs.Sound.{consistent}
 use Rattle.book.proofs.Blind.{causes-from, agrees-each, each-agrees, forced-by-causes}
@@ -32,39 +32,24 @@ module _ (sc : List (List ℕ)) where
   own r rs l o = cond (eqb (r .reason) 0) (same l o) (any (λ m. comes-from sc rs m o) (causes (trail rs) (numbered [] (r .reason) sc)))
 
   own-told : (r : Row) (rs : List Row) (l o : ℤ) → T (own r rs l o) → ((r .reason ≡ 0) × (l ≡ o)) ⊎ ((m : ℤ) × T (comes-from sc rs m o))
-  own-told r rs l o h = go (eqb (r .reason) 0) (λ y. eqb→eq (r .reason) 0 y) h
-    where
-      go : (b : Bool) → (T b → r .reason ≡ 0) → T (cond b (same l o) (any (λ m. comes-from sc rs m o) (causes (trail rs) (numbered [] (r .reason) sc))))
-          → ((r .reason ≡ 0) × (l ≡ o)) ⊎ ((m : ℤ) × T (comes-from sc rs m o))
-      go true y h = inl (y tt, same→eq l o h)
-      go false y h = let x = any-told (λ m. comes-from sc rs m o) (causes (trail rs) (numbered [] (r .reason) sc)) h in inr (x .0, x .2)
+  own-told r rs l o h =
+      either (λ b. T b → ((r .reason ≡ 0) × (l ≡ o)) ⊎ ((m : ℤ) × T (comes-from sc rs m o))) (eqb (r .reason) 0) (λ y k. inl (eqb→eq (r .reason) 0 y, same→eq l o k))
+      (λ _ k. let x = any-told (λ m. comes-from sc rs m o) (causes (trail rs) (numbered [] (r .reason) sc)) k in inr (x .0, x .2)) h
 
   from-among : (rs : List Row) (l o : ℤ) → T (comes-from sc rs l o) → Among o (trail rs)
   unfolding comes-from
   from-among [] l o h = absurd h
-  from-among (r ∷ rs) l o h = go (same (r .literal) l) (λ y. same→eq (r .literal) l y) h (λ m k. from-among rs m o k)
-    where
-      mine : r .literal ≡ l → ((m : ℤ) → T (comes-from sc rs m o) → Among o (trail rs)) → ((r .reason ≡ 0) × (l ≡ o)) ⊎ ((m : ℤ) × T (comes-from sc rs m o)) → Among o (trail (r ∷ rs))
-      mine e ih (inl x) = inl (sym (e ∙ x .1))
-      mine e ih (inr x) = inr (ih (x .0) (x .1))
-
-      go : (b : Bool) → (T b → r .literal ≡ l) → T (cond b (own r rs l o) (comes-from sc rs l o)) → ((m : ℤ) → T (comes-from sc rs m o) → Among o (trail rs)) → Among o (trail (r ∷ rs))
-      go true y h ih = mine (y tt) ih (own-told r rs l o h)
-      go false y h ih = inr (ih l h)
+  from-among (r ∷ rs) l o h =
+      either (λ b. T b → Among o (trail (r ∷ rs))) (same (r .literal) l)
+      (λ y k. ⊎-elim (λ x. inl (sym (same→eq (r .literal) l y ∙ x .1))) (λ x. inr (from-among rs (x .0) o (x .1))) (own-told r rs l o k))
+      (λ _ k. inr (from-among rs l o k)) h
 
   from-no-later : (rs : List Row) (l o : ℤ) → T (comes-from sc rs l o) → Among o (l ∷ trail (row-of l rs .before))
   unfolding comes-from row-of
   from-no-later [] l o h = absurd h
-  from-no-later (r ∷ rs) l o h = go (same (r .literal) l) h (λ k. from-no-later rs l o k)
-    where
-      mine : ((r .reason ≡ 0) × (l ≡ o)) ⊎ ((m : ℤ) × T (comes-from sc rs m o)) → Among o (l ∷ trail rs)
-      mine (inl x) = inl (sym (x .1))
-      mine (inr x) = inr (from-among rs (x .0) o (x .1))
-
-      go : (b : Bool) → T (cond b (own r rs l o) (comes-from sc rs l o)) → (T (comes-from sc rs l o) → Among o (l ∷ trail (row-of l rs .before)))
-          → Among o (l ∷ trail (cond b (record { mine = r; before = rs }) (row-of l rs) .before))
-      go true h ih = mine (own-told r rs l o h)
-      go false h ih = ih h
+  from-no-later (r ∷ rs) l o h =
+      either₂ (λ b (x : Standpoint). T b → Among o (l ∷ trail (x .before))) (same (r .literal) l)
+      (λ _ k. ⊎-elim (λ x. inl (sym (x .1))) (λ x. inr (from-among rs (x .0) o (x .1))) (own-told r rs l o k)) (λ _. from-no-later rs l o) h
 
 -- ---- over sound rows
 
@@ -88,20 +73,12 @@ module _ (n : ℕ) (ss : List Sentence) where
   from-given : (sc : List (List ℕ)) (v : ℕ) (rs : List Row) (l o : ℤ) → Sound n ss v rs → T (comes-from sc rs l o) → row-of o rs .mine .reason ≡ 0
   unfolding comes-from
   from-given sc v [] l o h k = absurd k
-  from-given sc v (r ∷ rs) l o h k = go (same (r .literal) l) (λ y. same→eq (r .literal) l y) k (λ m i. from-given sc (r .level) rs m o (h .1) i)
-    where
-      earlier : (m : ℤ) → T (comes-from sc rs m o) → row-of o rs .mine .reason ≡ 0 → row-of o (r ∷ rs) .mine .reason ≡ 0
-      earlier m i e = ap (λ (p : Standpoint). p .mine .reason) (row-later v r rs o h (from-among sc rs m o i)) ∙ e
-
-      mine : r .literal ≡ l → ((m : ℤ) → T (comes-from sc rs m o) → row-of o rs .mine .reason ≡ 0) → ((r .reason ≡ 0) × (l ≡ o)) ⊎ ((m : ℤ) × T (comes-from sc rs m o))
-          → row-of o (r ∷ rs) .mine .reason ≡ 0
-      mine e ih (inl x) = ap (λ (p : Standpoint). p .mine .reason) (row-here r rs o (e ∙ x .1)) ∙ x .0
-      mine e ih (inr x) = earlier (x .0) (x .1) (ih (x .0) (x .1))
-
-      go : (b : Bool) → (T b → r .literal ≡ l) → T (cond b (own sc r rs l o) (comes-from sc rs l o)) → ((m : ℤ) → T (comes-from sc rs m o) → row-of o rs .mine .reason ≡ 0)
-          → row-of o (r ∷ rs) .mine .reason ≡ 0
-      go true y k ih = mine (y tt) ih (own-told sc r rs l o k)
-      go false y k ih = earlier l k (ih l k)
+  from-given sc v (r ∷ rs) l o h k =
+      let earlier : (m : ℤ) → T (comes-from sc rs m o) → row-of o (r ∷ rs) .mine .reason ≡ 0 =
+      λ m i. ap (λ (p : Standpoint). p .mine .reason) (row-later v r rs o h (from-among sc rs m o i)) ∙ from-given sc (r .level) rs m o (h .1) i in
+      either (λ b. T b → row-of o (r ∷ rs) .mine .reason ≡ 0) (same (r .literal) l)
+      (λ y i. ⊎-elim (λ x. ap (λ (p : Standpoint). p .mine .reason) (row-here r rs o (same→eq (r .literal) l y ∙ x .1)) ∙ x .0) (λ x. earlier (x .0) (x .1)) (own-told sc r rs l o i))
+      (λ _ i. earlier l i) k
 
   module _ (js : List Judged) (blind : Each Blind ss) (m : JudgesAll ss js) where
     abbrev sc : List (List ℕ)

@@ -7,9 +7,9 @@ use Prim.Native.Nat.{ℕ, zero, suc, _+_, _-_, _≤_, _<_}
 use native.Mathlib.Omega.{arith}
 use lib.ListN.{length, length-append}
 use lib.IntN.{ℤ}
-use Rattle.meaning.specs.Meaning.{Sentence, Said, silent, conflict, forced, Each}
+use Rattle.meaning.specs.Meaning.{Sentence, silent, conflict, forced, Each}
 use Rattle.book.specs.Rows.{Row, row, trail}
-use Rattle.book.specs.Table.{Judged, Speech, nothing, objects, derives, spoken, speech, Stop, run}
+use Rattle.book.specs.Table.{Judged, Speech, nothing, objects, derives, speech, Stop, run}
 use Rattle.book.specs.Means.{SaysNothing, ForcesFirst, Speaker, Clashes, DerivedRows, Additions}
 use Rattle.book.proofs.Number.{numbered-positive}
 use Rattle.book.proofs.Speech.{silent-of, conflict-of, derived-of}
@@ -28,17 +28,6 @@ run-alike js js′ same v (suc steps) rs = ap (next js v steps rs) (same (trail 
     go nothing ih = refl
     go (objects k) ih = refl
     go (derives k l) ih = ih l k
-
--- nothing is said only where every judgement is silent
-quiet-judgements : (k : ℕ) (js : List Judged) (t : List ℤ) → speech k js t ≡ nothing → Each (λ j. j .says t ≡ silent) js
-unfolding speech
-quiet-judgements k [] t e = tt
-quiet-judgements k (j ∷ js) t e = go (j .says t) refl e (λ g. quiet-judgements (suc k) js t g)
-  where
-    go : (y : Said) → j .says t ≡ y → spoken y k (speech (suc k) js t) ≡ nothing → (speech (suc k) js t ≡ nothing → Each (λ j. j .says t ≡ silent) js) → Each (λ j. j .says t ≡ silent) (j ∷ js)
-    go silent q e ih = (q, ih e)
-    go conflict q e ih = let z : _≡_ {A = ℕ} 0 1 = cc in absurd (omega arith)
-    go (forced l) q e ih = let z : _≡_ {A = ℕ} 0 1 = cc in absurd (omega arith)
 
 module _ (n : ℕ) (ss : List Sentence) (js : List Judged) (w : Each (Scoped n) ss) (m : JudgesAll ss js) (v : ℕ) where
   speaker-of : (rs : List Row) → Sound n ss v rs → (k : ℕ) (l : ℤ) → speech 1 js (trail rs) ≡ derives k l → Speaker (trail rs) (ForcesFirst (trail rs) l) ss k
@@ -63,18 +52,6 @@ module _ (n : ℕ) (ss : List Sentence) (js : List Judged) (w : Each (Scoped n) 
 
   pub run-settles : (rs : List Row) → Sound n ss v rs → Runs js v rs (run js v (suc n) rs .sentence) (run js v (suc n) rs .rows)
   run-settles rs h = run-runs (suc n) rs h (omega arith)
-
-  -- and what runs is what `run` gives
-  runs-run : (steps : ℕ) (rs : List Row) (e : ℕ) (rs′ : List Row) → Sound n ss v rs → n < steps + length rs → Runs js v rs e rs′ → run js v steps rs ≡ record { sentence = e; rows = rs′ }
-  unfolding run
-  runs-run zero rs e rs′ h p r = absurd (let f = few-rows n ss v rs h in omega (arith, f, p))
-  runs-run (suc steps) rs e rs′ h p (rests q) = ap (next js v steps rs) q
-  runs-run (suc steps) rs e rs′ h p (clashes q) = ap (next js v steps rs) q
-  runs-run (suc steps) rs e rs′ h p (puts {k = k} {l = l} q r) =
-      ap (next js v steps rs) q ∙ runs-run steps (row l v k ∷ rs) e rs′ (one-more rs h k l q) (omega (arith, p)) r
-
-  pub run-is : (rs : List Row) (e : ℕ) (rs′ : List Row) → Sound n ss v rs → Runs js v rs e rs′ → run js v (suc n) rs ≡ record { sentence = e; rows = rs′ }
-  run-is rs e rs′ h r = runs-run (suc n) rs e rs′ h (omega arith) r
 
   -- ---- the end
 
@@ -104,11 +81,7 @@ module _ (n : ℕ) (ss : List Sentence) (js : List Judged) (w : Each (Scoped n) 
         go e (inl x) z = x .1
         go e (inr q) z = let x = clash-speaks e q in let p = numbered-positive e ss (x .sentence) (x .number) in absurd (omega (arith, p, z))
 
-    -- at still every judgement is silent
-    pub still-silent : stop .sentence ≡ 0 → Each (λ j. j .says (trail (stop .rows)) ≡ silent) js
-    still-silent z = quiet-judgements 1 js (trail (stop .rows)) (nothing-said z)
-
-    -- and every sentence is: satisfiable, and it forces no open literal
+    -- at still every sentence is satisfiable, and forces no open literal
     pub still-means : stop .sentence ≡ 0 → Each (SaysNothing (trail (stop .rows))) ss
     still-means z = silent-of (trail (stop .rows)) (consistent n ss v (stop .rows) (end .sound)) ss js m (nothing-said z)
 

@@ -1,7 +1,7 @@
 -- The answers are determined: any two lists of judgements that are right by full assignments give the same outcome to every call.
 -- Where the trail is consistent, what a sentence says and its bounds are one thing, and the trail of a sound book is consistent.
 use mathlib.Core.Path.{_≡_, refl, sym, _∙_, ap, ap₂, subst}
-use mathlib.Core.Bool.{Bool, true, false, not, cond, _&&_}
+use mathlib.Core.Bool.{Bool, not, cond, _&&_}
 use mathlib.Core.List.{List, [], _∷_, _++_, map}
 use Prim.Native.Nat.{ℕ, zero, suc, _+_, _-_}
 use lib.ListN.{length}
@@ -11,7 +11,7 @@ use Rattle.numbers.specs.Extended.{up, down}
 use Rattle.meaning.specs.Meaning.{atom, Sentence, Consistent, Says, Each}
 use Rattle.types.specs.declared.Limits.{Limits}
 use Rattle.book.specs.Rows.{Row, row, trail, any, numbered, explanation, conflict-explanation, origins}
-use Rattle.book.specs.Table.{Step, give, open-level, take-back, propagate, search, Report, bounds, explain, explain-conflict, origin, list-trail, Call, step, report, Result, between, listed, Answer, reported, list-of, Judged, State, scopes, nobody, Speech, nothing, objects, derives, spoken, speech, Stop, run, propagated, result, Refusal, refusal, too-short, no-atom, on-trail, is-conflict, step-refusals, report-refusals, refusals, Outcome, unchanged, ended, End, end, apart, turning, tried, trying, searching, search-ended, step-effect, effect, decided, reply}
+use Rattle.book.specs.Table.{Step, give, open-level, take-back, propagate, search, Report, bounds, explain, explain-conflict, origin, list-trail, Call, step, report, Result, between, listed, Answer, reported, list-of, Judged, State, scopes, nobody, Speech, nothing, objects, derives, spoken, speech, Stop, run, propagated, result, Refusal, refusal, too-short, no-atom, on-trail, is-conflict, step-refusals, report-refusals, refusals, Outcome, unchanged, ended, End, end, apart, turning, trying, searching, search-ended, step-effect, effect, decided, reply}
 use Rattle.book.specs.Book.{WellFormed, Judges, Judgement, Judging, Book, Asked, fits, turn, after, turned, answers, played}
 use Rattle.meaning.proofs.Says.{says-unique}
 use Rattle.meaning.proofs.Extremes.{furthest-unique}
@@ -20,7 +20,7 @@ use Rattle.book.proofs.Number.{judges-length}
 use Rattle.book.proofs.Speech.{derived-of}
 use Rattle.book.specs.Sound.{JudgesAll, none, more, Scoped, Sound, SoundBook}
 use Rattle.book.proofs.Sound.{consistent, derive-sound}
-use Rattle.book.proofs.Tests.{none-first, none-rest, Passed, decided-under}
+use Rattle.book.proofs.Tests.{either₂, none-first, none-rest, Passed, decided-under}
 use Rattle.book.proofs.Keeps.{next, atom-told, state-at, propagated-sound, tried-sound, turn-sound}
 
 -- ---- two judgements of a sentence
@@ -103,25 +103,14 @@ module _ (n : ℕ) (ss : List Sentence) (js js′ : List Judged) (w : Each (Scop
     unfolding trying
     trying-same [] d g v rs t h = refl
     trying-same (l ∷ ls) d g v rs t h =
-        go (on-trail (here js v rs) (atom l)) (leb top v) (λ o. o)
-        (trying-same ls d (suc g) v rs (none-rest (no-atom (here js v rs)) l ls t) h)
-        (λ rs′ e k. trying-same ls e (suc g) (suc v) rs′ (none-rest (no-atom (here js v rs)) l ls t) k)
-      where
-        tested : List Judged → Bool → Bool → End
-        tested j on high =
-            cond on (trying (here j v rs) d (suc g) ls)
-            (cond high (end 0 d g (here j v rs)) (turning (tried (here j v rs) l) d (suc g) (λ p e. trying p e (suc g) ls)))
+        let rest = none-rest (no-atom (here js v rs)) l ls t in
+        either₂ _≡_ (on-trail (here js v rs) (atom l)) (λ _. trying-same ls d (suc g) v rs rest h)
+        (λ o. either₂ _≡_ (leb top v) (λ _. refl)
+        (λ _. turning-same d (suc g) (suc v) (row l (suc v) 0 ∷ rs) (λ p e. trying p e (suc g) ls)
+        (tried-sound x n top ss js w m v rs l (atom-told n l (none-first (no-atom (here js v rs)) l ls t)) o h)
+        (λ rs′ e k. trying-same ls e (suc g) (suc v) rs′ rest k)))
 
-        go : (on high : Bool) → (T (not on) → T (not (on-trail (here js v rs) (atom l)))) → trying (here js v rs) d (suc g) ls ≡ trying (here js′ v rs) d (suc g) ls
-            → ((rs′ : List Row) (e : ℕ) → Sound n ss (suc v) rs′ → trying (here js (suc v) rs′) e (suc g) ls ≡ trying (here js′ (suc v) rs′) e (suc g) ls)
-            → tested js on high ≡ tested js′ on high
-        go true high o past on = past
-        go false true o past on = refl
-        go false false o past on =
-            turning-same d (suc g) (suc v) (row l (suc v) 0 ∷ rs) (λ p e. trying p e (suc g) ls)
-            (tried-sound x n top ss js w m v rs l (atom-told n l (none-first (no-atom (here js v rs)) l ls t)) (o tt) h) on
-
-    pub searching-same : (ls : List ℤ) (v : ℕ) (rs : List Row) → T (not (any (no-atom (here js v rs)) ls)) → Sound n ss v rs
+    searching-same : (ls : List ℤ) (v : ℕ) (rs : List Row) → T (not (any (no-atom (here js v rs)) ls)) → Sound n ss v rs
         → searching (here js v rs) ls ≡ searching (here js′ v rs) ls
     searching-same ls v rs t h = turning-same 0 0 v rs (λ p e. trying p e 0 ls) h (λ rs′ e k. trying-same ls e 0 v rs′ t k)
 

@@ -1,13 +1,13 @@
 -- What the rows of a book always have: literals of atoms 1 to N, each atom once, levels that do not rise going back, and every derived
 -- literal forced by its reason over the rows before it. A trail of such rows is consistent, and each step keeps them so.
 use mathlib.Core.Path.{_≡_, refl, sym, _∙_, ap, subst}
-use mathlib.Core.Bool.{Bool, true, false, cond}
+use mathlib.Core.Bool.{false, cond}
 use mathlib.Core.Logic.{inl, inr}
 use mathlib.Core.List.{List, [], _∷_}
 use Prim.Native.Nat.{ℕ, _≤_}
 use native.Mathlib.Omega.{arith}
 use lib.IntN.{ℤ}
-use lib.Dec.{T, leb, leb→le}
+use lib.Dec.{leb, leb→le}
 use borrow.Author.Tests.{le-leb}
 use Rattle.meaning.specs.Meaning.{atom, Sentence, Consistent, On, Each}
 use Rattle.meaning.specs.Merge.{rule-of, scope}
@@ -17,6 +17,7 @@ use Rattle.book.specs.Means.{ForcesFirst, Speaker}
 use Rattle.book.specs.Sound.{Within, Scoped, Sits, Sound}
 use Rattle.book.proofs.Number.{numbered-each, in-each}
 use Rattle.book.proofs.Inside.{ForcedInside, first-forced-inside}
+use Rattle.book.proofs.Tests.{either}
 
 module _ (n : ℕ) (ss : List Sentence) where
   pub consistent : (v : ℕ) (rs : List Row) → Sound n ss v rs → Consistent (trail rs)
@@ -43,11 +44,10 @@ module _ (n : ℕ) (ss : List Sentence) where
   pub up-to-sound : (v k : ℕ) (rs : List Row) → Sound n ss v rs → Sound n ss k (up-to k rs)
   unfolding up-to
   up-to-sound v k [] h = tt
-  up-to-sound v k (r ∷ rs) h = go (leb (r .level) k) (λ t. leb→le (r .level) k t) (up-to-sound (r .level) k rs (h .1))
-    where
-      go : (b : Bool) → (T b → r .level ≤ k) → Sound n ss k (up-to k rs) → Sound n ss k (cond b (r ∷ up-to k rs) (up-to k rs))
-      go true p ih = subst (λ x. Sound n ss k (r ∷ x)) (sym (up-to-all (r .level) k rs (p tt) (h .1))) (lowered v k r rs (p tt) (h .0), h .1)
-      go false p ih = ih
+  up-to-sound v k (r ∷ rs) h =
+      either (Sound n ss k) (leb (r .level) k)
+      (λ t. let p = leb→le (r .level) k t in subst (λ x. Sound n ss k (r ∷ x)) (sym (up-to-all (r .level) k rs p (h .1))) (lowered v k r rs p (h .0), h .1))
+      (λ _. up-to-sound (r .level) k rs (h .1))
 
   -- ---- a literal more
 
