@@ -8,7 +8,7 @@ use Rattle.types.specs.Limits.{base}
 use Rattle.numbers.specs.Words.{unbias, literal-of}
 use Rattle.meaning.specs.Computed.{gather, standing, extreme, first-due, says}
 use Rattle.book.specs.Rows.{up-to, pick, causes, row-of, numbered, any, comes-from, in-order, flat}
-use Rattle.book.specs.Table.{Answer, refused, Paper, paper, list-after, speech, run, reply}
+use Rattle.book.specs.Table.{Answer, refused, Paper, paper, list-after, speech, run, trying, reply}
 use Rattle.area.specs.Layout.{rows-from, value-word, entries-of, rules-from, entries-before}
 use Rattle.calls.specs.Calls.{area-state}
 use Rattle.history_examples.specs.Examples.{Turn, m11-turns, m12-turns}
@@ -36,5 +36,5 @@ unfolding rows-from value-word entries-of rules-from entries-before unbias liter
 m11-computed = refl
 
 pub m12-computed : handed m12-turns ≡ computed m12-turns
-unfolding rows-from value-word entries-of rules-from entries-before unbias literal-of gather standing extreme first-due says pick causes row-of numbered any comes-from in-order flat speech run reply
+unfolding rows-from value-word entries-of rules-from entries-before unbias literal-of gather standing extreme first-due says up-to pick causes row-of numbered any comes-from in-order flat speech run trying reply
 m12-computed = refl

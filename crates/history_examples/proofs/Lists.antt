@@ -12,7 +12,7 @@ use Rattle.meaning.specs.Examples.{m4}
 use Rattle.meaning.specs.Merge.{turned-all, freed-all, put, collect, nonzero}
 use Rattle.meaning.specs.Computed.{gather, standing, extreme, first-due, says}
 use Rattle.book.specs.Rows.{up-to, pick, causes, row-of, numbered, any, comes-from, in-order, flat}
-use Rattle.book.specs.Table.{speech, run, reply}
+use Rattle.book.specs.Table.{speech, run, trying, reply}
 use Rattle.book.specs.Examples.{ring}
 use Rattle.area.specs.Layout.{rows-from, value-word, entries-of, rules-from, entries-before}
 use Rattle.whole.specs.Parts.{counters}
@@ -21,7 +21,7 @@ use Rattle.columns.specs.Refusals.{some, both-signs, all-refusals, first-refusa
 use Rattle.load.specs.Load.{Loaded, Loads}
 use Rattle.load.specs.Examples.{given}
 use Rattle.history.specs.History.{acts, reports, Calls, none}
-use Rattle.history_examples.specs.Examples.{counters-at, sevens, spare, load-done, FromLoad, events, m11-loaded, m11-one, m11-two, m11-opened, m11-derived, m11-against, m11-again, m11-turns, ring-columns, m12-loaded, m12-given, m12-derived, m12-turns}
+use Rattle.history_examples.specs.Examples.{counters-at, sevens, spare, load-done, FromLoad, events, m11-loaded, m11-one, m11-two, m11-opened, m11-derived, m11-against, m11-again, m11-turns, ring-columns, m12-loaded, m12-searched, m12-given, m12-derived, m12-turns}
 use Rattle.history_examples.proofs.Decide.{decided, miscounted, cut-short}
 use Rattle.history_examples.proofs.Steps.{moving, keeping, refusing, listing, refusing-list, then, then-cut}
 
@@ -88,9 +88,11 @@ module _ (front : List ℕ) (e : length front ≡ 24) where
 -- ---- M12
 
 m12-calls : Calls base m12-loaded (counters-at 0 0) (events m12-turns) m12-derived (counters-at 2 0)
-unfolding rows-from value-word entries-of rules-from entries-before unbias literal-of gather standing extreme first-due says pick causes row-of numbered any comes-from in-order flat speech run reply paired written-from sentences-in sum-first
+unfolding rows-from value-word entries-of rules-from entries-before unbias literal-of gather standing extreme first-due says up-to pick causes row-of numbered any comes-from in-order flat speech run trying reply paired written-from sentences-in sum-first
 m12-calls =
-    then-cut 28 m12-given refl (acts _ _ (counters-at 1 0) (moving tt refl tt tt refl))
+    then m12-searched (acts _ _ (counters-at 2 1) (moving tt refl tt tt refl))
+    (then m12-loaded (acts _ _ (counters-at 0 0) (moving tt refl tt tt refl))
+    (then-cut 28 m12-given refl (acts _ _ (counters-at 1 0) (moving tt refl tt tt refl))
     (then m12-derived (acts _ _ (counters-at 2 0) (moving tt refl tt tt refl))
     (then-cut 28 m12-derived refl (reports _ _ (sevens 6) _ (listing tt refl refl))
     (then m12-derived (reports _ _ (sevens 2) _ (listing tt refl refl))
@@ -102,7 +104,7 @@ m12-calls =
     (then m12-derived (reports _ _ [] _ (listing tt refl refl))
     (then m12-derived (reports _ _ [] _ (listing tt refl refl))
     (then m12-derived (acts _ _ (counters-at 2 0) (moving tt refl tt tt refl))
-    none)))))))))))
+    none)))))))))))))
 
 module _ (front : List ℕ) (e : length front ≡ 28) where
   m12-stored : Loaded base (front ++ spare) m12-loaded 2 ring-columns

@@ -9,7 +9,7 @@ use Rattle.types.specs.Limits.{base}
 use Rattle.types.specs.declared.Counters.{Counters}
 use Rattle.meaning.specs.Meaning.{Sentence}
 use Rattle.meaning.specs.Examples.{minus}
-use Rattle.book.specs.Table.{Step, give, open-level, take-back, propagate, Report, bounds, explain, explain-conflict, origin, list-trail, Call, step, report, Paper}
+use Rattle.book.specs.Table.{Step, give, open-level, take-back, propagate, search, Report, bounds, explain, explain-conflict, origin, list-trail, Call, step, report, Paper}
 use Rattle.propagate.specs.Propagate.{plain}
 use Rattle.columns.specs.Columns.{Columns, columns, all-written, sentences-in}
 use Rattle.columns.specs.declared.Answer.{Answer}
@@ -64,6 +64,10 @@ sevens (suc k) = pos 7 ∷ sevens k
 -- two bounds, both numbers
 abbrev pub spans : (least greatest : ℕ) → Paper
 spans v w = record { code = 0; value = 0; sentence = 0; gone = 0; least-mark = 0; least = pos v; greatest-mark = 0; greatest = pos w }
+
+-- a search that ended in no conflict
+abbrev pub seeks : (derived gone : ℕ) → Paper
+seeks d g = record { code = 0; value = d; sentence = 0; gone = g; least-mark = 0; least = pos 0; greatest-mark = 0; greatest = pos 0 }
 
 -- the word past the need, in both examples
 abbrev pub spare : List ℕ
@@ -151,6 +155,10 @@ ring-words tag v w =
 abbrev pub m12-loaded : List ℕ
 m12-loaded = 131074 ∷ 0 ∷ 0 ∷ 0 ∷ 0 ∷ 0 ∷ 0 ∷ 0 ∷ ring-words 16 4611686018427387904 4611686018427387904
 
+-- a search for 1 and -2: at level 1 the one is given and 2 derived. Taking back leaves load's words again
+abbrev pub m12-searched : List ℕ
+m12-searched = 281483566776322 ∷ 0 ∷ 1 ∷ 3 ∷ 2 ∷ 4 ∷ 1 ∷ 4295032833 ∷ ring-words 0 4611686018427387905 4611686018427387905
+
 -- 1 is given
 abbrev pub m12-given : List ℕ
 m12-given = 4295098370 ∷ 0 ∷ 1 ∷ 0 ∷ 2 ∷ 0 ∷ 0 ∷ 0 ∷ ring-words 16 4611686018427387904 4611686018427387905
@@ -161,8 +169,10 @@ m12-derived = 8590065666 ∷ 0 ∷ 1 ∷ 3 ∷ 2 ∷ 4 ∷ 0 ∷ 4295032832 ∷ 
 
 abbrev pub m12-turns : List Turn
 m12-turns =
-    -- on an area cut to just its need, as the third
-    asks (take 28 m12-loaded) 0 0 (give (pos 1)) (plain 0 0 0)
+    asks m12-loaded 0 0 (search (pos 1 ∷ minus 2 ∷ [])) (seeks 1 2)
+    ∷ asks m12-searched 2 1 (take-back 0) (plain 0 0 0)
+    -- on an area cut to just its need, as the list of the trail
+    ∷ asks (take 28 m12-loaded) 0 0 (give (pos 1)) (plain 0 0 0)
     ∷ asks m12-given 1 0 propagate (plain 0 1 0)
     ∷ asks-list (take 28 m12-derived) 2 0 list-trail (plain 0 6 0) (sevens 6) (pos 1 ∷ pos 0 ∷ pos 0 ∷ pos 2 ∷ pos 0 ∷ pos 1 ∷ [])
     ∷ asks-list m12-derived 2 0 (explain (pos 2)) (plain 0 2 0) (sevens 2) (pos 2 ∷ minus 1 ∷ [])
