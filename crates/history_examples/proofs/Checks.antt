@@ -12,7 +12,7 @@ use Rattle.book.specs.Table.{Answer, refused, Paper, paper, list-after, speech,
 use Rattle.area.specs.Layout.{rows-from, value-word, entries-of, rules-from, entries-before}
 use Rattle.calls.specs.Calls.{area-state}
 use Rattle.history_examples.specs.Examples.{Turn, m11-turns, m12-turns}
-use Rattle.history_examples.proofs.Test.{whole-test}
+use Rattle.history_examples.proofs.Decide.{whole-test}
 
 -- the paper's numbers, and the lent list after the call
 pub record HandedOver : Type 0 where

@@ -1,4 +1,3 @@
-pub mod Test
 pub mod Checks
 pub mod Decide
 pub mod Steps

@@ -18,8 +18,7 @@ use Rattle.calls.specs.Calls.{area-state, keeps, Acts, Reports}
 use Rattle.calls.proofs.Acting.{answered-nine, answered-whole, acts-broken, acts-kept, acts-moved}
 use Rattle.history.specs.History.{Event, Called, Calls, next}
 use Rattle.history_examples.specs.Examples.{counters-at}
-use Rattle.history_examples.proofs.Test.{whole-test}
-use Rattle.history_examples.proofs.Decide.{decided}
+use Rattle.history_examples.proofs.Decide.{whole-test, decided}
 
 -- what is read off the words after a call that is not refused, and what it must be
 pub record ReadOff : Type 0 where
