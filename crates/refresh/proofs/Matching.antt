@@ -14,30 +14,25 @@ use Rattle.meaning.specs.Merge.{Rule, scope}
 use Rattle.meaning.specs.Computed.{standing, extreme, says}
 use Rattle.meaning.proofs.Gather.{each-map}
 use Rattle.meaning.proofs.Members.{each-both, places-each}
-use Rattle.meaning.proofs.Standing.{SameStanding, extreme-standing, says-standing}
+use Rattle.meaning.proofs.Standing.{each-place, SameStanding, extreme-standing, says-standing}
 use Rattle.area.specs.Layout.{word, rule-at}
 use Rattle.area.specs.Whole.{EntryWhole, RuleWhole}
 use Rattle.extremes.specs.Stored.{Shows}
 use Rattle.whole.specs.Parts.{Matching}
 use Rattle.refresh.specs.Refresh.{AsBefore, Renewed}
 
--- the atoms of a whole rule are 1 to n
-scope-inside : (lim : Limits) (n : ℕ) (r : Rule) → RuleWhole lim n r → Each (λ a. (1 ≤ a) × (a ≤ n)) (scope r)
-scope-inside lim n r o = (
-  (o .head-low, o .head-high),
-  places-each (λ a. (1 ≤ a) × (a ≤ n)) (r .set .entries)
-      (each-map (EntryWhole n (r .head) (r .kind) (r .written)) (λ e. (1 ≤ place e) × (place e ≤ n)) (r .set .entries) (λ e h. (h .atom-low, h .atom-high)) (o .entries)),
-)
-
 -- ---- an untouched sentence
 
 module _ (n : ℕ) (touched : List ℕ) (t t′ : List ℤ)
     (stand : (a : ℕ) → 1 ≤ a → a ≤ n → word touched a ≡ 0 → standing t a ≡ standing t′ a) where
   scope-stands : (lim : Limits) (r : Rule) → RuleWhole lim n r → Each (λ a. word touched a ≡ 0) (scope r) → Each (SameStanding t t′) (scope r)
-  scope-stands lim r o h =
-      each-map (λ a. ((1 ≤ a) × (a ≤ n)) × (word touched a ≡ 0)) (SameStanding t t′) (scope r)
-      (λ a p. stand a (p .0 .0) (p .0 .1) (p .1))
-      (each-both (λ a. (1 ≤ a) × (a ≤ n)) (λ a. word touched a ≡ 0) (scope r) (scope-inside lim n r o) h)
+  scope-stands lim r o h = (
+    stand (r .head) (o .head-low) (o .head-high) (h .0),
+    places-each (SameStanding t t′) (r .set .entries)
+        (each-map (λ e. EntryWhole n (r .head) (r .kind) (r .written) e × (word touched (place e) ≡ 0)) (λ e. SameStanding t t′ (place e)) (r .set .entries)
+        (λ e p. stand (place e) (p .0 .atom-low) (p .0 .atom-high) (p .1))
+        (each-both (EntryWhole n (r .head) (r .kind) (r .written)) (λ e. word touched (place e) ≡ 0) (r .set .entries) (o .entries) (each-place (λ a. word touched a ≡ 0) (r .set .entries) (h .1)))),
+  )
 
   pub untouched-matches : (lim : Limits) (w w′ : List ℕ) (S b : ℕ) → rule-at w′ n S b ≡ rule-at w n S b → RuleWhole lim n (rule-at w n S b)
       → Each (λ a. word touched a ≡ 0) (scope (rule-at w n S b)) → AsBefore w w′ b → Matching w n S b t → Matching w′ n S b t′

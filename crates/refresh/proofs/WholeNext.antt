@@ -18,7 +18,7 @@ use Rattle.area.specs.Layout.{word, atoms-of, sentences-of, level-of, rows-from
 use Rattle.area.specs.Whole.{Whole, Reasoned}
 use Rattle.trail_check.specs.Trail.{HeaderOk, TrailOk}
 use Rattle.trail_check.proofs.Shown.{shows}
-use Rattle.whole.specs.Parts.{counters, Matching, SentenceRight, AllRight, Parts}
+use Rattle.whole.specs.Parts.{counters, Matching, SentenceRight, Parts}
 use Rattle.whole.proofs.Join.{parts, joined-at}
 use Rattle.whole.proofs.Frame.{drop-same, same-record, record-through}
 use Rattle.whole.proofs.Theories.{SameTheory, theory-behind, rule-stays, sentence-stays, rules-stay, before-stays, places-stay}
@@ -108,21 +108,12 @@ module _ (lim : Limits) (w₀ w w′ : List ℕ) (c₀ : Counters) (len level : 
   behind i l = done .behind i l ∙ changed .rest i (omega arith)
 
   same : SameTheory w₀ w′ n S
-  same =
-      theory-behind size
-      (λ s h. record-through w₀ w w′ (record-at n s) (same-first .records s h) (done .each s h .same))
-      behind
+  same = theory-behind size (λ s h. record-through w₀ w w′ (record-at n s) (same-first .records s h) (done .each s h .same)) behind
 
   -- ---- each sentence matches the new trail
 
-  abbrev old : List ℤ
-  old = trail (rows-of w₀)
-
   abbrev new : List ℤ
   new = trail (rows-from w n len)
-
-  matched : (s : ℕ) → s < S → Matching w₀ n S (record-at n s) old
-  matched s h = record { bounds = whole .bounds s h; quiet = whole .quiet s h }
 
   as-before : (s : ℕ) → AsBefore w w′ (record-at n s) → AsBefore w₀ w′ (record-at n s)
   as-before s a = record {
@@ -136,17 +127,13 @@ module _ (lim : Limits) (w₀ w w′ : List ℕ) (c₀ : Counters) (len level : 
     where
       go : (Untouched w n S (record-at n s) touched × AsBefore w w′ (record-at n s)) ⊎ Renewed w w′ n S (record-at n s) → Matching w′ n S (record-at n s) new
       go (inl p) =
-          untouched-matches n touched old new (changed .standings) lim w₀ w′ S (record-at n s) (rule-stays same s h) (old-parts .sentences s h .words .rule)
-          (subst (λ (r : Rule). Each (λ a. word touched a ≡ 0) (scope r)) (rule-stays same-first s h) (p .0)) (as-before s (p .1)) (matched s h)
+          untouched-matches n touched (trail (rows-of w₀)) new (changed .standings) lim w₀ w′ S (record-at n s) (rule-stays same s h) (old-parts .sentences s h .words .rule)
+          (subst (λ (r : Rule). Each (λ a. word touched a ≡ 0) (scope r)) (rule-stays same-first s h) (p .0)) (as-before s (p .1))
+          (record { bounds = whole .bounds s h; quiet = whole .quiet s h })
       go (inr r) = renewed-matches w w′ n S (record-at n s) new (rule-stays same-next s h) (shows (changed .trail-ok)) r
 
   rows-new : rows-from w′ n len ≡ rows-from w n len
   rows-new = rows-stay w w′ n (done .front) len few
-
-  all-right : AllRight lim w′ n S len
-  all-right s h =
-      subst (λ (rs : List Row). SentenceRight lim w′ n S (record-at n s) (trail rs)) (sym rows-new)
-      (record { words = sentence-stays same lim s h (old-parts .sentences s h .words); matching = matches s h })
 
   -- ---- word 0
 
@@ -159,30 +146,25 @@ module _ (lim : Limits) (w₀ w w′ : List ℕ) (c₀ : Counters) (len level : 
   header-new : HeaderOk lim w′ len level
   header-new = header-stays lim w w′ len level (omega (arith, done .size, changed .header .records)) first (changed .header)
 
-  whole-new : Whole lim w′ (counters len level)
-  whole-new =
-      joined-at lim w′ len level n S atoms-new sentences-new header-new
-      (record {
-        trail-ok = trail-stays w w′ n (done .front) len level few (changed .trail-ok);
-        places = places-stay same lim (omega (arith, size, old-parts .places .room)) (old-parts .places);
-        sentences = all-right;
-        reasons = λ i l. reason-stays w w′ n (done .front) S i same-next (omega arith) (changed .reasons i l);
-      })
-
-  need-new : need-of w′ ≡ need-of w₀
-  need-new =
-      ap₂ {A = ℕ} {B = ℕ} (λ m k. 4 * m + 8 * k + 2 * entries-before w′ m k) atoms-new sentences-new
-      ∙ ap {A = ℕ} (λ x. 4 * n + 8 * S + 2 * x) (before-stays same S (omega arith))
-
   pub renewed-whole : RenewedWhole lim w₀ w w′ len level
   renewed-whole = record {
-    whole = whole-new;
+    whole =
+        joined-at lim w′ len level n S atoms-new sentences-new header-new
+        (record {
+          trail-ok = trail-stays w w′ n (done .front) len level few (changed .trail-ok);
+          places = places-stay same lim (omega (arith, size, old-parts .places .room)) (old-parts .places);
+          sentences = λ s h. subst (λ (rs : List Row). SentenceRight lim w′ n S (record-at n s) (trail rs)) (sym rows-new)
+              (record { words = sentence-stays same lim s h (old-parts .sentences s h .words); matching = matches s h });
+          reasons = λ i l. reason-stays w w′ n (done .front) S i same-next (omega arith) (changed .reasons i l);
+        });
     atoms = atoms-new;
     sentences = sentences-new;
     theory = ap₂ {A = ℕ} {B = ℕ} (λ m k. rules-from w′ m k 0 k) atoms-new sentences-new ∙ rules-stay same 0 S (omega arith);
     rows = ap₂ {A = ℕ} {B = ℕ} (rows-from w′) atoms-new (header-new .length-is) ∙ rows-new;
     level-is = header-new .level-is;
-    need = need-new;
+    need =
+        ap₂ {A = ℕ} {B = ℕ} (λ m k. 4 * m + 8 * k + 2 * entries-before w′ m k) atoms-new sentences-new
+        ∙ ap {A = ℕ} (λ x. 4 * n + 8 * S + 2 * x) (before-stays same S (omega arith));
     size = size;
     rest = drop-same w₀ w′ (need-of w₀) size (λ i l. behind i (omega arith));
   }
