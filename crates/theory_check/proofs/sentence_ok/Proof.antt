@@ -18,7 +18,8 @@ entries-by-kind-requires c κs = let g = granted (c .before .before .before .rec
 
 returns-2 : tie.Need-returns-2
 returns-2 c = record {
-  tells = told-no (λ h. denied (c .before .before .before .entries-by-kind .ensures .tells) (c .if2 .taken) (own-entries _ _ _ _ _ (omega arith) _ (c .before .before .before .before .before .entry-at .ensures) h));
+  tells = told-no (λ h. denied (c .before .before .before .entries-by-kind .ensures .tells) (c .if2 .taken)
+      (own-entries _ _ _ _ _ (omega arith) _ (c .before .before .before .before .before .entry-at .ensures) h));
   stamps = c .before .before .before .entries-by-kind .ensures .stamps;
 }
 
@@ -31,8 +32,10 @@ returns-3 c = record {
 
 returns-4 : tie.Need-returns-4
 returns-4 c = record {
-  tells = told-yes (sentence-from _ _ _ _ _ (omega arith) _ (c .before .before .before .before .before .before .before .before .before .entry-at .ensures) (c .before .before .before .before .before .before .before .before .before .before .before .before .before .before .pre .few) (granted (c .before .before .before .before .before .before .before .before .before .before .before .record-ok .ensures) (c .before .before .before .before .before .before .before .before .before .before .if1 .left))
-      (granted (c .before .before .before .before .before .before .before .entries-by-kind .ensures .tells) (c .before .before .before .before .if2 .left)) (λ i l h. granted (c .before .blank .ensures) (c .if3 .left) i (omega arith) (omega arith)));
+  tells = told-yes (sentence-from _ _ _ _ _ (omega arith) _ (c .before .before .before .before .before .before .before .before .before .entry-at .ensures) (c .before .before .before .before .before .before .before .before .before .before .before .before .before .before .pre .few)
+      (granted (c .before .before .before .before .before .before .before .before .before .before .before .record-ok .ensures) (c .before .before .before .before .before .before .before .before .before .before .if1 .left))
+      (granted (c .before .before .before .before .before .before .before .entries-by-kind .ensures .tells) (c .before .before .before .before .if2 .left))
+      (λ i l h. granted (c .before .blank .ensures) (c .if3 .left) i (omega arith) (omega arith)));
   stamps = c .before .before .before .before .before .before .before .entries-by-kind .ensures .stamps;
 }
 
