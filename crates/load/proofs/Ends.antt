@@ -32,7 +32,7 @@ use Rattle.whole.proofs.Trails.{header-stays, trail-stays}
 use Rattle.refresh.proofs.Matching.{renewed-matches}
 use Rattle.store.specs.Stored.{AllStored}
 use Rattle.load.specs.Load.{Loaded}
-use Rattle.store.proofs.Storing.{Small, small, written-is}
+use Rattle.store.proofs.Storing.{written-is}
 
 -- ---- word 0 of n atoms and S sentences, an empty trail and level 0
 
@@ -48,9 +48,6 @@ level-field x n S a b e = omega arith
 module _ (lim : Limits) (w w1 : List ℕ) (n : ℕ) (c : Columns) (fit : Fitting lim) (ok : Accepted lim (length w) n c) (st : AllStored w w1 n c) where
   abbrev S : ℕ
   S = length (c .heads)
-
-  fits : Small (length w) n c
-  fits = small lim (length w) n c fit ok
 
   -- ---- the stored theory
 
@@ -98,42 +95,38 @@ module _ (lim : Limits) (w w1 : List ℕ) (n : ℕ) (c : Columns) (fit : Fitting
 
   -- ---- the empty trail
 
-  blank : (i : ℕ) → 1 ≤ i → i < 4 * n → word w1 i ≡ 0
-  blank = st .blank
-
   shows-none : Shows w1 n []
   unfolding standing
-  shows-none a low high = ap {A = ℕ} standing-word (sym (blank (n - 1 + a) (omega arith) (omega arith)))
+  shows-none a low high = ap {A = ℕ} standing-word (sym (st .blank (n - 1 + a) (omega arith) (omega arith)))
 
   trail-ok : TrailOk w1 n 0 0
   unfolding rows-from value-word
   trail-ok =
-      let low = fits .atoms-low in
       record {
         atoms = tt;
-        values = λ a l h. blank (n - 1 + a) (omega arith) (omega arith);
+        values = λ a l h. st .blank (n - 1 + a) (omega arith) (omega arith);
         rising = tt;
-        front = λ i l h. blank i l (omega arith);
-        literals = λ i l h. blank (2 * n + i) (omega arith) (omega arith);
-        marks = λ i l h. blank (3 * n + i) (omega arith) (omega arith);
+        front = λ i l h. st .blank i l (omega arith);
+        literals = λ i l h. st .blank (2 * n + i) (omega arith) (omega arith);
+        marks = λ i l h. st .blank (3 * n + i) (omega arith) (omega arith);
       }
 
   atoms-are : atoms-of w1 ≡ n
-  atoms-are = let a = fits .atoms in omega (arith, st .first)
+  atoms-are = omega (arith, st .first)
 
   sentences-are : sentences-of w1 ≡ S
-  sentences-are = sentences-field (word w1 0) n S (fits .atoms) (fits .sentences) (st .first)
+  sentences-are = sentences-field (word w1 0) n S (omega arith) (omega arith) (st .first)
 
   level-none : level-of w1 ≡ 0
-  level-none = level-field (word w1 0) n S (fits .atoms) (fits .sentences) (st .first)
+  level-none = level-field (word w1 0) n S (omega arith) (omega arith) (st .first)
 
   header : HeaderOk lim w1 0 0
   header = record {
-    atoms-low = omega (arith, atoms-are, fits .atoms-low);
+    atoms-low = omega (arith, atoms-are);
     atoms-high = omega (arith, atoms-are, ok .shape .within .high);
     sentences = omega (arith, sentences-are, ok .shape .within .few-sentences);
     records = omega (arith, atoms-are, sentences-are, ok .enough, st .size);
-    length-is = length-field (word w1 0) n S (fits .atoms) (fits .sentences) (st .first);
+    length-is = length-field (word w1 0) n S (omega arith) (omega arith) (st .first);
     level-is = level-none;
     level-limit = omega (arith, level-none);
     few = omega arith;
@@ -152,12 +145,12 @@ module _ (lim : Limits) (w w1 : List ℕ) (n : ℕ) (c : Columns) (fit : Fitting
         go : (Untouched w1 n S (record-at n s) touched × AsBefore w1 w2 (record-at n s)) ⊎ Renewed w1 w2 n S (record-at n s) → Matching w2 n S (record-at n s) []
         go (inl p) =
             let high = sentence-ok s h .rule .head-high in
-            let one = all (word w1 (record-at n s)) (omega (arith, high, fits .atoms)) in
+            let one = all (word w1 (record-at n s)) (omega (arith, high)) in
             let b : ⊥ = omega (arith, one, p .0 .0) in absurd b
         go (inr r) = renewed-matches w1 w2 n S (record-at n s) [] (rule-stays same s h) shows-none r
 
     first : word w2 0 ≡ word w1 0
-    first = done .front 0 (let l = fits .atoms-low in omega arith)
+    first = done .front 0 (omega arith)
 
     atoms-new : atoms-of w2 ≡ n
     atoms-new = ap {A = ℕ} (λ x. x % 65536) first ∙ atoms-are

@@ -47,14 +47,6 @@ module _ (c : Columns) (s : ℕ) (z : ℤ) (f m : ℕ) where
 lent-length : (f m : ℕ) (l : List ℤ) → f + m ≤ length l → length (take m (drop f l)) ≡ m
 lent-length f m l h = length-take-le m (drop f l) (omega (arith, length-drop f l))
 
--- the numbers of an accepted load fit
-pub record Small (words n : ℕ) (c : Columns) : Type 0 where
-  pub atoms-low : 1 ≤ n
-  pub atoms : n ≤ 4096
-  pub sentences : length (c .heads) ≤ 1024
-  pub entries : length (c .weights) ≤ 16384
-  pub enough : need n c ≤ words
-
 -- the first s sentences are stored
 pub record Running (n : ℕ) (c : Columns) (w0 w : List ℕ) (s from : ℕ) : Type 0 where
   pub size : length w ≡ length w0
@@ -75,17 +67,6 @@ running-none n c w = record {
 -- ---- an accepted load
 
 module _ (lim : Limits) (words n : ℕ) (c : Columns) (fit : Fitting lim) (ok : Accepted lim words n c) where
-  pub small : Small words n c
-  small =
-      let k = ok .shape .within in
-      record {
-        atoms-low = k .low;
-        atoms = omega (arith, k .high, fit .atoms);
-        sentences = omega (arith, k .few-sentences, fit .sentences);
-        entries = omega (arith, k .few-entries, fit .entries);
-        enough = ok .enough;
-      }
-
   module _ (s from : ℕ) (l : s < length (c .heads)) (e : from ≡ sum-first (c .counts) s) where
     pub here : Inside c s from
     here = inside lim n c s from (ok .shape) l e
@@ -159,7 +140,7 @@ module _ (lim : Limits) (words n : ℕ) (c : Columns) (fit : Fitting lim) (ok : 
   pub all-stored : (w w0 w′ : List ℕ) (s from : ℕ) → s ≡ length (c .heads) → Cleared w w0 (4 * n) (n + 65536 * length (c .heads)) → Running n c w0 w′ s from → AllStored w w′ n c
   all-stored w w0 w′ s from e k run = record {
     size = run .size ∙ k .size;
-    first = run .front 0 (let q = small .atoms-low in omega arith) ∙ k .first-is;
+    first = run .front 0 (omega arith) ∙ k .first-is;
     blank = λ i a l. run .front i l ∙ k .blank i a l;
     each = λ j l. run .each j (omega arith);
     rest = λ i l. run .rest i l ∙ k .above i (omega arith);
