@@ -319,80 +319,66 @@ module _ {M : Type 1} (𝓤 : URA M) (H : Heap 𝓤) (A : Atoms 𝓤) (W : Given
     turns : (z : State) → Sq W (At z) (runs C Λ En code-mir.turn-1 (anyQ (Turned z)))
     unfolding afterTurn
     turns z =
-        assigns ! (of-opd ! (load ! (from ! (fld ! refl (stop !))) (look-in ! 28 (sub ! 1 refl (whole !))))) (from ! (stop !)) (init ! 18 refl (
-          tt,
-          record {
-            fits = room .0;
-          },
-        )) $ assigns ! (bin ! (load ! (from ! (stop !)) (look ! 20 refl)) (load ! (from ! (stop !)) (look ! 18 refl)) tt) (from ! (stop !))
-        (init ! 16 refl (tt, tt)) $ first ! $ branches ! (load ! (from ! (stop !)) (look ! 16 refl))
-        (λ less. skips ! $ exec ! C Λ En (after (after (after code-mir.turn-1))) (anyQ (Turned z)) $ assigns ! (addr ! (from ! (stop !))) (from ! (stop !))
-        (init ! 12 refl (tt, tt)) $ assigns ! (addr ! (from ! (stop !))) (from ! (stop !)) (init ! 10 refl (tt, tt)) $ assigns ! (bin ! (load ! (from ! (stop
-        !)) (look ! 20 refl)) (lit ! tt) (record { fits = bytes-fit (z .i) n (ltb→lt (z .i) n less) (room .1) })) (from ! (stop !)) (store ! 18 refl (
-          tt,
-          record { fits = bytes-fit (z .i) n (ltb→lt (z .i) n less) (room .1) },
-        )) $ assigns ! (bin ! (load ! (from ! (fld ! refl (stop !))) (look-in ! 28 (sub !
-        0 refl (whole !)))) (load ! (from ! (stop !)) (look ! 18 refl)) tt) (from ! (stop !)) (init ! 8 refl (tt, tt)) $ rewrite ! 8 (λ (p : ℕ). ‵ (fat
-        fullShare tyPtr l₁₁ 0 (vptr b p))) (sym (place-is 16 o (z .i))) refl $
+        assigns ! (of-opd ! (load ! (from ! (fld ! refl (stop !))) (look-in ! 28 (sub ! 1 refl (whole !))))) (from ! (stop !)) (init ! 18 refl
+        (tt, record { fits = room .0 })) $ assigns ! (bin ! (load ! (from ! (stop !)) (look ! 20 refl)) (load ! (from ! (stop !)) (look ! 18 refl))
+        tt) (from ! (stop !)) (init ! 16 refl (tt, tt)) $ first ! $ branches ! (load ! (from ! (stop !)) (look ! 16 refl)) (λ less. skips ! $ exec ! C
+        Λ En (after (after (after code-mir.turn-1))) (anyQ (Turned z)) $ assigns ! (addr ! (from ! (stop !))) (from ! (stop !)) (init ! 12 refl
+        (tt, tt)) $ assigns ! (addr ! (from ! (stop !))) (from ! (stop !)) (init ! 10 refl (tt, tt)) $ assigns ! (bin ! (load ! (from ! (stop !))
+        (look ! 20 refl)) (lit ! tt) (record { fits = bytes-fit (z .i) n (ltb→lt (z .i) n less) (room .1) })) (from ! (stop !)) (store ! 18 refl
+        (tt, record { fits = bytes-fit (z .i) n (ltb→lt (z .i) n less) (room .1) })) $ assigns ! (bin ! (load ! (from ! (fld ! refl (stop !)))
+        (look-in ! 28 (sub ! 0 refl (whole !)))) (load ! (from ! (stop !)) (look ! 18 refl)) tt) (from ! (stop !)) (init ! 8 refl (tt, tt)) $ rewrite
+        ! 8 (λ (p : ℕ). ‵ (fat fullShare tyPtr l₁₁ 0 (vptr b p))) (sym (place-is 16 o (z .i))) refl $
         -- the records are looked into, and the i-th is copied
-        looks-slice ! tt E.the-row (Is E.the-row) (shows 𝓤 H A E.the-row) evals (LL.tells E.the-type E′.the-laws) (LL.copy E.the-type E′.the-copy 𝓤 H A W) rs
-        b o (λ p. elem-out ! E.the-row (Is E.the-row) (shows 𝓤 H A E.the-row) evals (LL.tells E.the-type E′.the-laws) p rs (z .i) blank-record b o (ltb→lt (z
-        .i) n less) (λ ge. assigns ! (of-opd ! (load ! (from ! (hop ! (look ! 11 refl) (stop !))) (look-raw ! 0 refl))) (from ! (stop !)) (init ! 9 refl
-        (LL.lawful E.the-type E′.the-laws 𝓤 H A W .typed (getD rs (z .i) blank-record) (evals (getD rs (z .i) blank-record)) ge .0)) $ elem-back ! E.the-row p
-        rs (z .i) blank-record (evals (getD rs (z .i) blank-record)) b o (ltb→lt (z .i) n less) $ shuts-slice ! tt E.the-row p rs b o $
+        looks-slice ! tt E.the-row (Is E.the-row) (shows 𝓤 H A E.the-row) evals (LL.tells E.the-type E′.the-laws) (LL.copy E.the-type E′.the-copy 𝓤 H
+        A W) rs b o (λ p. elem-out ! E.the-row (Is E.the-row) (shows 𝓤 H A E.the-row) evals (LL.tells E.the-type E′.the-laws) p rs (z .i) blank-record
+        b o (ltb→lt (z .i) n less) (λ ge. assigns ! (of-opd ! (load ! (from ! (hop ! (look ! 11 refl) (stop !))) (look-raw ! 0 refl))) (from ! (stop
+        !)) (init ! 9 refl (LL.lawful E.the-type E′.the-laws 𝓤 H A W .typed (getD rs (z .i) blank-record) (evals (getD rs (z .i) blank-record)) ge
+        .0)) $ elem-back ! E.the-row p rs (z .i) blank-record (evals (getD rs (z .i) blank-record)) b o (ltb→lt (z .i) n less) $ shuts-slice ! tt
+        E.the-row p rs b o $
         -- each column is lent for a lifetime of the call
-        lft-new ! tt (λ ν. lft-new ! tt (λ ν′. move ! (26 ∷ []) $ use1 W (‵ (mem Column .lies (z .ws) l₃ 0)) (lies-in 𝓤 H A W (z .ws) l₃ (z .is-ws)) $ use1 W
-        (later (some (λ (δ : GName). ‵ (MutRef (named 0) (ν ∷ []) Column .own (at-column l₃ δ (z .ws)) (vptr l₃ 0 ∷ [])) ⊛ ‵ (flent (ν ∷ []) (Body (mem
-        Column) l₃ 0 δ))))) (lends-ref 𝓤 H A W Column (named 0) (ν ∷ []) (z .ws) l₃ 0) $ await ! tt $ pick ! (λ δ. split ! $ move ! (26 ∷ []) $ use1 W (‵ (mem
-        Column .lies (z .ls) l₄ 0)) (lies-in 𝓤 H A W (z .ls) l₄ (z .is-ls)) $ use1 W (later (some (λ (δ′ : GName). ‵ (MutRef (named 1) (ν′ ∷ []) Column .own
-        (at-column l₄ δ′ (z .ls)) (vptr l₄ 0 ∷ [])) ⊛ ‵ (flent (ν′ ∷ []) (Body (mem Column) l₄ 0 δ′))))) (lends-ref 𝓤 H A W Column (named 1) (ν′ ∷ []) (z .ls)
-        l₄ 0) $ await ! tt $ pick ! (λ δ′. split ! $ move ! (2 ∷ 0 ∷ []) $ join ! $ move ! (3 ∷ 0 ∷ []) $ join ! $ move ! (3 ∷ 0 ∷ []) $ join ! $ use1 W (raw
-        (CopyOne 𝓤 H A at-mem run .pre (to-one l₃ l₄ ν ν′ δ δ′ (z .ws) (z .ls) (z .i)))) (goes-one l₃ l₄ ν ν′ δ δ′ (z .ws) (z .ls) (z .i) (next-fits (z .i) n
-        (ltb→lt (z .i) n less) (room .0)) ge) $
+        lft-new ! tt (λ ν. lft-new ! tt (λ ν′. move ! (26 ∷ []) $ use1 W (‵ (mem Column .lies (z .ws) l₃ 0)) (lies-in 𝓤 H A W (z .ws) l₃ (z .is-ws)) $
+        use1 W (later (some (λ (δ : GName). ‵ (MutRef (named 0) (ν ∷ []) Column .own (at-column l₃ δ (z .ws)) (vptr l₃ 0 ∷ [])) ⊛ ‵ (flent (ν ∷ [])
+        (Body (mem Column) l₃ 0 δ))))) (lends-ref 𝓤 H A W Column (named 0) (ν ∷ []) (z .ws) l₃ 0) $ await ! tt $ pick ! (λ δ. split ! $ move ! (26 ∷
+        []) $ use1 W (‵ (mem Column .lies (z .ls) l₄ 0)) (lies-in 𝓤 H A W (z .ls) l₄ (z .is-ls)) $ use1 W (later (some (λ (δ′ : GName). ‵ (MutRef
+        (named 1) (ν′ ∷ []) Column .own (at-column l₄ δ′ (z .ls)) (vptr l₄ 0 ∷ [])) ⊛ ‵ (flent (ν′ ∷ []) (Body (mem Column) l₄ 0 δ′))))) (lends-ref 𝓤
+        H A W Column (named 1) (ν′ ∷ []) (z .ls) l₄ 0) $ await ! tt $ pick ! (λ δ′. split ! $ move ! (2 ∷ 0 ∷ []) $ join ! $ move ! (3 ∷ 0 ∷ []) $
+        join ! $ move ! (3 ∷ 0 ∷ []) $ join ! $ use1 W (raw (CopyOne 𝓤 H A at-mem run .pre (to-one l₃ l₄ ν ν′ δ δ′ (z .ws) (z .ls) (z .i)))) (goes-one
+        l₃ l₄ ν ν′ δ δ′ (z .ws) (z .ls) (z .i) (next-fits (z .i) n (ltb→lt (z .i) n less) (room .0)) ge) $
         -- the call
-        calls-at ! (fmOf 𝓤 H (W .laws) 𝓣) (CopyOne 𝓤 H A at-mem run) known (to-one l₃ l₄ ν ν′ δ δ′ (z .ws) (z .ls) (z .i)) (and-then ! (load ! (from ! (stop
-        !)) (look ! 15 refl)) (and-then ! (load ! (from ! (stop !)) (look ! 13 refl)) (and-then ! (load ! (from ! (stop !)) (look ! 23 refl)) (and-then !
-        (load ! (from ! (stop !)) (look ! 9 refl)) (no-more !))))) (λ w. use1 W (later (some (λ (r : unit .Denot). ((‵ (flft (ν ∷ []) fullShare) ⊛ ‵ (flft (ν′
-        ∷ []) fullShare) ⊛ ‵ ftrue) ⊛ ‵ (unit .own r (w ∷ []))) ⊛ raw (ensured 𝓤 H A copy-one.ended (copy-one.clauses 𝓤 H A at-mem run) (
-          ν ∷ [],
-          (
-            ν′ ∷ [],
-            tt,
-          ),
-        ) (one-args l₃ l₄ δ δ′ (z .ws) (z .ls) (z .i)) tt r)))) (id⊢ 𝓤 _) $ await ! tt $ pick ! (λ r. split ! $ move ! (1 ∷ []) $ use1 W (some (λ (zs :
-        List ℤ × (List ℤ × (Unit {0} × (Unit {0} × Unit {0})))). ‵ (lasts copy-one.ended (ν ∷ [], (ν′ ∷ [], tt)) (one-args l₃ l₄ δ δ′ (z .ws) (z .ls) (z .i))
-        zs) ⊛ raw (fact 𝓤 (Said z (zs .0) (zs .1 .0))))) (id⊢ 𝓤 _) $ pick ! (λ zs. split ! $ move ! (1 ∷ []) $ heard ! (Said z (zs .0) (zs .1 .0)) (λ e.
-        fsplit ! $ move ! (1 ∷ []) $ fsplit ! $ move ! (1 ∷ []) $ drop ! $ move ! (2 ∷ []) $ split ! $ move ! (1 ∷ []) $ feqL ! (λ is. land ! (from ! (stop
-        !)) (init ! 19 refl (subst (λ (v : Val). Holds (hasTy tyUnit v) × WT v) (sym (ap only is)) (tt, tt))) $
+        calls-at ! (fmOf 𝓤 H (W .laws) 𝓣) (CopyOne 𝓤 H A at-mem run) known (to-one l₃ l₄ ν ν′ δ δ′ (z .ws) (z .ls) (z .i)) (and-then ! (load ! (from !
+        (stop !)) (look ! 15 refl)) (and-then ! (load ! (from ! (stop !)) (look ! 13 refl)) (and-then ! (load ! (from ! (stop !)) (look ! 23 refl))
+        (and-then ! (load ! (from ! (stop !)) (look ! 9 refl)) (no-more !))))) (λ w. use1 W (later (some (λ (r : unit .Denot). ((‵ (flft (ν ∷ [])
+        fullShare) ⊛ ‵ (flft (ν′ ∷ []) fullShare) ⊛ ‵ ftrue) ⊛ ‵ (unit .own r (w ∷ []))) ⊛ raw (ensured 𝓤 H A copy-one.ended (copy-one.clauses 𝓤 H A
+        at-mem run) (ν ∷ [], (ν′ ∷ [], tt)) (one-args l₃ l₄ δ δ′ (z .ws) (z .ls) (z .i)) tt r)))) (id⊢ 𝓤 _) $ await ! tt $ pick ! (λ r. split ! $ move
+        ! (1 ∷ []) $ use1 W (some (λ (zs : List ℤ × (List ℤ × (Unit {0} × (Unit {0} × Unit {0})))). ‵ (lasts copy-one.ended (ν ∷ [], (ν′ ∷ [], tt))
+        (one-args l₃ l₄ δ δ′ (z .ws) (z .ls) (z .i)) zs) ⊛ raw (fact 𝓤 (Said z (zs .0) (zs .1 .0))))) (id⊢ 𝓤 _) $ pick ! (λ zs. split ! $ move ! (1 ∷
+        []) $ heard ! (Said z (zs .0) (zs .1 .0)) (λ e. fsplit ! $ move ! (1 ∷ []) $ fsplit ! $ move ! (1 ∷ []) $ drop ! $ move ! (2 ∷ []) $ split ! $
+        move ! (1 ∷ []) $ feqL ! (λ is. land ! (from ! (stop !)) (init ! 19 refl (subst (λ (v : Val). Holds (hasTy tyUnit v) × WT v) (sym (ap only
+        is)) (tt, tt))) $
         -- the lifetimes are ended, and the columns are back
-        split ! $ move ! (1 ∷ []) $ split ! $ move ! (1 ∷ []) $ drop ! $ move ! (1 ∷ []) $ lft-end ! tt $ move ! (0 ∷ 5 ∷ 3 ∷ []) $ use3 W (later (‵ (mem
-        Column .lies (zs .0) l₃ 0))) (ref-back 𝓤 H A W Column (ν ∷ []) δ (zs .0) l₃ 0) $ await ! tt $ use1 W (‵ (fat fullShare column-type l₃ 0 (column-val
-        (zs .0))) ⊛ ‵ (Column .own (zs .0) (column-vals (zs .0)))) (lies-out 𝓤 H A W (zs .0) l₃) $ split ! $ move ! (1 ∷ []) $ peeks ! Column (Is Column)
-        (shows 𝓤 H A Column) (zs .0) (column-vals (zs .0)) (λ gw. drop ! $ move ! (1 ∷ []) $ lft-end ! tt $ move ! (0 ∷ 3 ∷ 2 ∷ []) $ use3 W (later (‵ (mem
-        Column .lies (zs .1 .0) l₄ 0))) (ref-back 𝓤 H A W Column (ν′ ∷ []) δ′ (zs .1 .0) l₄ 0) $ await ! tt $ use1 W (‵ (fat fullShare column-type l₄ 0
-        (column-val (zs .1 .0))) ⊛ ‵ (Column .own (zs .1 .0) (column-vals (zs .1 .0)))) (lies-out 𝓤 H A W (zs .1 .0) l₄) $ split ! $ move ! (1 ∷ []) $ peeks !
-        Column (Is Column) (shows 𝓤 H A Column) (zs .1 .0) (column-vals (zs .1 .0)) (λ gl. drop ! $ assigns-last ! (bin ! (load ! (from ! (stop !)) (look ! 22
-        refl)) (lit ! tt) (record { fits = next-fits (z .i) n (ltb→lt (z .i) n less) (room .0) })) (from ! (stop !)) (store ! 22 refl (
-          tt,
-          record {
-            fits =
-                next-fits (z .i) n (ltb→lt (z .i) n less) (room .0);
-          },
-        )) $ forget ! 8 refl $ forget ! 10 refl $ forget ! 12 refl $ forget ! 14 refl $ forget ! 16 refl
-        $ forget ! 18 refl $ forget ! 20 refl $ keep ! (3 ∷ 2 ∷ 4 ∷ 5 ∷ 6 ∷ 7 ∷ 8 ∷ 9 ∷ 10 ∷ 11 ∷ 12 ∷ 13 ∷ 14 ∷ 15 ∷ 16 ∷ 17 ∷ 18 ∷ 19 ∷ 20 ∷ 21 ∷ 22 ∷ 23 ∷
-        0 ∷ 24 ∷ 1 ∷ 25 ∷ 26 ∷ 27 ∷ 28 ∷ 29 ∷ 30 ∷ 31 ∷ 32 ∷ []) $ again ! Nearer At z (next z (ltb→lt (z .i) n less) (zs .0) (zs .1 .0) e gw gl) (next-less
-        (z .i) n (ltb→lt (z .i) n less))))))))))))))))
-        (λ over. jumps ! $ exec ! C Λ En code-mir.t-6 (atRet En Post) $ assigns ! (of-opd ! (load ! (from ! (stop !)) (look ! 24 refl))) (from ! (stop !))
-        (init ! 4 refl (array-lawful 𝓤 H A W i64 (sint-lawful 𝓤 H A W w64) 4096 .typed (z .ws) _ (z .is-ws) .0)) $ assigns ! (of-opd ! (load ! (from ! (stop
-        !)) (look ! 22 refl))) (from ! (stop !)) (init ! 2 refl (array-lawful 𝓤 H A W i64 (sint-lawful 𝓤 H A W w64) 4096 .typed (z .ls) _ (z .is-ls) .0)) $
-        assigns ! (agg ! (and-then ! (load ! (from ! (stop !)) (look ! 4 refl)) (and-then ! (load ! (from ! (stop !)) (look ! 2 refl)) (and-then ! (load !
-        (from ! (stop !)) (look ! 20 refl)) (no-more !))))) (from ! (stop !)) (init ! 30 refl (LL.lawful S.the-type S′.the-laws 𝓤 H A W .typed (copied z) _
-        (is-made z) .0)) $ returns ! (look ! 30 refl) $ forget ! 2 refl $ forget ! 4 refl $ forget ! 16 refl $ forget ! 18 refl $ forget ! 20 refl $ forget !
-        22 refl $ forget ! 24 refl $ forget ! 28 refl $ forget ! 30 refl $ move ! (30 ∷ 31 ∷ []) $ free1 ! $ move ! (28 ∷ 29 ∷ []) $ free1 ! $ move ! (26 ∷ 27
-        ∷ []) $ free1 ! $ move ! (24 ∷ 25 ∷ []) $ free1 ! $ move ! (22 ∷ 23 ∷ []) $ free1 ! $ move ! (20 ∷ 21 ∷ []) $ free1 ! $ move ! (18 ∷ 19 ∷ []) $ free1
-        ! $ move ! (16 ∷ 17 ∷ []) $ free1 ! $ move ! (14 ∷ 15 ∷ []) $ free1 ! $ move ! (12 ∷ 13 ∷ []) $ free1 ! $ move ! (10 ∷ 11 ∷ []) $ free1 ! $ move ! (8
-        ∷ 9 ∷ []) $ free1 ! $ move ! (6 ∷ 7 ∷ []) $ free1 ! $ move ! (4 ∷ 5 ∷ []) $ free1 ! $ move ! (2 ∷ 3 ∷ []) $ free1 ! $ free0 ! $ keep ! (1 ∷ 2 ∷ []) $
-        by ! (exits (copied z) (is-made z) (all-done z (nltb→le (z .i) n over))))
+        split ! $ move ! (1 ∷ []) $ split ! $ move ! (1 ∷ []) $ drop ! $ move ! (1 ∷ []) $ lft-end ! tt $ move ! (0 ∷ 5 ∷ 3 ∷ []) $ use3 W (later (‵
+        (mem Column .lies (zs .0) l₃ 0))) (ref-back 𝓤 H A W Column (ν ∷ []) δ (zs .0) l₃ 0) $ await ! tt $ use1 W (‵ (fat fullShare column-type l₃ 0
+        (column-val (zs .0))) ⊛ ‵ (Column .own (zs .0) (column-vals (zs .0)))) (lies-out 𝓤 H A W (zs .0) l₃) $ split ! $ move ! (1 ∷ []) $ peeks !
+        Column (Is Column) (shows 𝓤 H A Column) (zs .0) (column-vals (zs .0)) (λ gw. drop ! $ move ! (1 ∷ []) $ lft-end ! tt $ move ! (0 ∷ 3 ∷ 2 ∷ [])
+        $ use3 W (later (‵ (mem Column .lies (zs .1 .0) l₄ 0))) (ref-back 𝓤 H A W Column (ν′ ∷ []) δ′ (zs .1 .0) l₄ 0) $ await ! tt $ use1 W (‵ (fat
+        fullShare column-type l₄ 0 (column-val (zs .1 .0))) ⊛ ‵ (Column .own (zs .1 .0) (column-vals (zs .1 .0)))) (lies-out 𝓤 H A W (zs .1 .0) l₄) $
+        split ! $ move ! (1 ∷ []) $ peeks ! Column (Is Column) (shows 𝓤 H A Column) (zs .1 .0) (column-vals (zs .1 .0)) (λ gl. drop ! $ assigns-last !
+        (bin ! (load ! (from ! (stop !)) (look ! 22 refl)) (lit ! tt) (record { fits = next-fits (z .i) n (ltb→lt (z .i) n less) (room .0) })) (from !
+        (stop !)) (store ! 22 refl (tt, record { fits = next-fits (z .i) n (ltb→lt (z .i) n less) (room .0) })) $ forget ! 8 refl $ forget ! 10 refl $
+        forget ! 12 refl $ forget ! 14 refl $ forget ! 16 refl $ forget ! 18 refl $ forget ! 20 refl $ keep ! (3 ∷ 2 ∷ 4 ∷ 5 ∷ 6 ∷ 7 ∷ 8 ∷ 9 ∷ 10 ∷ 11
+        ∷ 12 ∷ 13 ∷ 14 ∷ 15 ∷ 16 ∷ 17 ∷ 18 ∷ 19 ∷ 20 ∷ 21 ∷ 22 ∷ 23 ∷ 0 ∷ 24 ∷ 1 ∷ 25 ∷ 26 ∷ 27 ∷ 28 ∷ 29 ∷ 30 ∷ 31 ∷ 32 ∷ []) $ again ! Nearer At z
+        (next z (ltb→lt (z .i) n less) (zs .0) (zs .1 .0) e gw gl) (next-less (z .i) n (ltb→lt (z .i) n less)))))))))))))))) (λ over. jumps ! $ exec !
+        C Λ En code-mir.t-6 (atRet En Post) $ assigns ! (of-opd ! (load ! (from ! (stop !)) (look ! 24 refl))) (from ! (stop !)) (init ! 4 refl
+        (array-lawful 𝓤 H A W i64 (sint-lawful 𝓤 H A W w64) 4096 .typed (z .ws) _ (z .is-ws) .0)) $ assigns ! (of-opd ! (load ! (from ! (stop !))
+        (look ! 22 refl))) (from ! (stop !)) (init ! 2 refl (array-lawful 𝓤 H A W i64 (sint-lawful 𝓤 H A W w64) 4096 .typed (z .ls) _ (z .is-ls) .0))
+        $ assigns ! (agg ! (and-then ! (load ! (from ! (stop !)) (look ! 4 refl)) (and-then ! (load ! (from ! (stop !)) (look ! 2 refl)) (and-then !
+        (load ! (from ! (stop !)) (look ! 20 refl)) (no-more !))))) (from ! (stop !)) (init ! 30 refl (LL.lawful S.the-type S′.the-laws 𝓤 H A W .typed
+        (copied z) _ (is-made z) .0)) $ returns ! (look ! 30 refl) $ forget ! 2 refl $ forget ! 4 refl $ forget ! 16 refl $ forget ! 18 refl $ forget
+        ! 20 refl $ forget ! 22 refl $ forget ! 24 refl $ forget ! 28 refl $ forget ! 30 refl $ move ! (30 ∷ 31 ∷ []) $ free1 ! $ move ! (28 ∷ 29 ∷
+        []) $ free1 ! $ move ! (26 ∷ 27 ∷ []) $ free1 ! $ move ! (24 ∷ 25 ∷ []) $ free1 ! $ move ! (22 ∷ 23 ∷ []) $ free1 ! $ move ! (20 ∷ 21 ∷ []) $
+        free1 ! $ move ! (18 ∷ 19 ∷ []) $ free1 ! $ move ! (16 ∷ 17 ∷ []) $ free1 ! $ move ! (14 ∷ 15 ∷ []) $ free1 ! $ move ! (12 ∷ 13 ∷ []) $ free1
+        ! $ move ! (10 ∷ 11 ∷ []) $ free1 ! $ move ! (8 ∷ 9 ∷ []) $ free1 ! $ move ! (6 ∷ 7 ∷ []) $ free1 ! $ move ! (4 ∷ 5 ∷ []) $ free1 ! $ move !
+        (2 ∷ 3 ∷ []) $ free1 ! $ free0 ! $ keep ! (1 ∷ 2 ∷ []) $ by ! (exits (copied z) (is-made z) (all-done z (nltb→le (z .i) n over))))
 
     -- where the blank column is in its local
     abbrev Before : List ℤ → List (Item 𝓤)

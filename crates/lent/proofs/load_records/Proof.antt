@@ -17,11 +17,11 @@ use ghost.Atoms.{Atoms, sem}
 use contract.Lifetimes.{AllOutlive}
 use contract.Monad.{Fun, fact}
 use contract.Running.{givenOf, tables, tablesOf}
-use types.Kit.{Item, Given, ‵, raw, _⊛_, ⋆, some, later, _$_, _∵_, !, qed, by, move, keep, drop, use1, use2, split, join, pick, fsplit, fjoin, feqL, suffices, frame, await, done}
+use types.Kit.{Item, Given, ‵, raw, _⊛_, mean, ⋆, some, later, _$_, _∵_, !, qed, by, move, keep, drop, use1, use2, split, join, pick, fsplit, fjoin, feqL, suffices, frame, await, done}
 use types.Part.{agg, whole, sub, look-in}
 use types.Run.{look, init, forget, stop, hop, fld, from, load, addr, and-then, no-more, assigns, land, returns, enter, alloc1, alloc0, params1, pass1, pass0, free1, free0}
 use sound.WpLaws.{FmC, fmOf, WpFn-mono}
-use denote.RattleType.{owns}
+use denote.RattleType.{RattleType, owns}
 use denote.Laws.{Is, shows}
 use denote.Memory.{mem}
 use denote.Builtin.{u64, i64}
@@ -67,6 +67,9 @@ use Rattle.lent.proofs.load_records as load-records
 use Rattle.lent.proofs.load_records.Statement as stated
 use Rattle.lent.proofs.load_records.Code as code
 
+abbrev sv : {X : Type 0} → RefT (List X) → Val
+sv x = sliceVal (x .ptr) (length (x .now))
+
 abbrev stayed : Stays (load-records.ended .signature .params) (load-records.ended .kept)
 stayed = (
   gave-slice (0 ∷ []) tt (plain (λ _. u64)),
@@ -110,26 +113,11 @@ module _ {M : Type 1} (𝓤 : URA M) (H : Heap 𝓤) (A : Atoms 𝓤) (W : Given
     (κ₀ κ₁ κ₂ κ₃ κ₄ κ₅ κ₆ : Lft) (allowed : AllOutlive 7 (load-records.signature .outlives) (κ₀, (κ₁, (κ₂, (κ₃, (κ₄, (κ₅, (κ₆, tt))))))))
     (q₀ q₁ q₂ q₃ q₄ q₅ q₆ : Share) (area : RefT (List ℕ)) (atoms : Atom) (fits : Is P.the-row atoms (pvals atoms))
     (heads kinds sides : RefT (List ℕ)) (bounds : RefT (List ℤ)) (counts : RefT (List ℕ)) (entries : RefT (List Weighted)) where
-  abbrev s-area : Val
-  s-area = sliceVal (area .ptr) (length (area .now))
+  abbrev shr : (j : ℕ) → Lft → (R : RattleType) → RefT (List (R .Denot)) → Item 𝓤
+  shr j κ R x = ‵ (ShrSlice (named j) κ R .own x (sv x ∷ []))
 
-  abbrev s-heads : Val
-  s-heads = sliceVal (heads .ptr) (length (heads .now))
-
-  abbrev s-kinds : Val
-  s-kinds = sliceVal (kinds .ptr) (length (kinds .now))
-
-  abbrev s-sides : Val
-  s-sides = sliceVal (sides .ptr) (length (sides .now))
-
-  abbrev s-bounds : Val
-  s-bounds = sliceVal (bounds .ptr) (length (bounds .now))
-
-  abbrev s-counts : Val
-  s-counts = sliceVal (counts .ptr) (length (counts .now))
-
-  abbrev s-entries : Val
-  s-entries = sliceVal (entries .ptr) (length (entries .now))
+  abbrev two-of : (j : ℕ) (κ : Lft) (R : RattleType) (x : RefT (List (R .Denot))) → ent 𝓤 (mean 𝓤 H A (shr j κ R x)) (mean 𝓤 H A (shr j κ R x ⊛ shr j κ R x))
+  two-of j κ R x = shr-slice-copy 𝓤 H A W (named j) κ R .twice x (sv x ∷ [])
 
   abbrev Arg : Type 0
   Arg = RefT (List ℕ) × (Atom × (RefT (List ℕ) × (RefT (List ℕ) × (RefT (List ℕ) × (RefT (List ℤ) × (RefT (List ℕ) × (RefT (List Weighted) × Unit {0})))))))
@@ -141,7 +129,7 @@ module _ {M : Type 1} (𝓤 : URA M) (H : Heap 𝓤) (A : Atoms 𝓤) (W : Given
   Vals = List Val × (List Val × (List Val × (List Val × (List Val × (List Val × (List Val × (List Val × (Unit {0}))))))))
 
   abbrev at : Vals
-  at = (s-area ∷ [], (pvals atoms, (s-heads ∷ [], (s-kinds ∷ [], (s-sides ∷ [], (s-bounds ∷ [], (s-counts ∷ [], (s-entries ∷ [], tt))))))))
+  at = (sv area ∷ [], (pvals atoms, (sv heads ∷ [], (sv kinds ∷ [], (sv sides ∷ [], (sv bounds ∷ [], (sv counts ∷ [], (sv entries ∷ [], tt))))))))
 
   abbrev Post : Val → SProp 𝓤
   Post = walkOf 𝓤 H A load-records.ended stayed (load-records.clauses 𝓤 H A at-mem run) .post
@@ -150,11 +138,11 @@ module _ {M : Type 1} (𝓤 : URA M) (H : Heap 𝓤) (A : Atoms 𝓤) (W : Given
   -- ---- `copy_records`
 
   abbrev to-copy : Copy 𝓤 H A at-mem run .Ghost
-  to-copy = (((κ₆, tt), (q₆, tt), tt, (entries, tt), (s-entries ∷ [], tt)), tt)
+  to-copy = (((κ₆, tt), (q₆, tt), tt, (entries, tt), (sv entries ∷ [], tt)), tt)
 
-  goes-copy : ent 𝓤 (sep 𝓤 (A .lft κ₆ q₆) (sem 𝓤 H A (ShrSlice (named 6) κ₆ E.the-row .own entries (s-entries ∷ [])))) (Copy 𝓤 H A at-mem run .pre to-copy)
+  goes-copy : ent 𝓤 (sep 𝓤 (A .lft κ₆ q₆) (sem 𝓤 H A (ShrSlice (named 6) κ₆ E.the-row .own entries (sv entries ∷ [])))) (Copy 𝓤 H A at-mem run .pre to-copy)
   goes-copy =
-      qed W (‵ (flft κ₆ q₆) ∷ ‵ (ShrSlice (named 6) κ₆ E.the-row .own entries (s-entries ∷ [])) ∷ []) ∵
+      qed W (‵ (flft κ₆ q₆) ∷ shr 6 κ₆ E.the-row entries ∷ []) ∵
       nothing ! $ move ! (2 ∷ 0 ∷ []) $ fjoin ! $ nothing ! $ move ! (2 ∷ 0 ∷ []) $ join ! $ join ! $ frame ! $ done !
 
   copy-said : (c : Copied) → ent 𝓤 (ensured 𝓤 H A copy-records.ended (copy-records.clauses 𝓤 H A at-mem run) (κ₆, tt) (entries, tt) tt c)
@@ -176,7 +164,7 @@ module _ {M : Type 1} (𝓤 : URA M) (H : Heap 𝓤) (A : Atoms 𝓤) (W : Given
       (q₀, (q₁, (q₂, (q₃, (q₄, (q₅, tt)))))),
       tt,
       load-args c,
-      (s-area ∷ [], (pvals atoms, (s-heads ∷ [], (s-kinds ∷ [], (s-sides ∷ [], (s-bounds ∷ [], (s-counts ∷ [], (v ∷ [], tt)))))))),
+      (sv area ∷ [], (pvals atoms, (sv heads ∷ [], (sv kinds ∷ [], (sv sides ∷ [], (sv bounds ∷ [], (sv counts ∷ [], (v ∷ [], tt)))))))),
     ),
     tt,
   )
@@ -184,19 +172,9 @@ module _ {M : Type 1} (𝓤 : URA M) (H : Heap 𝓤) (A : Atoms 𝓤) (W : Given
   -- what the call takes
   abbrev Taken : Copied → Val → Item 𝓤
   Taken c v =
-      ‵ (flft κ₀ q₀)
-      ⊛ ‵ (flft κ₁ q₁)
-      ⊛ ‵ (flft κ₂ q₂)
-      ⊛ ‵ (flft κ₃ q₃)
-      ⊛ ‵ (flft κ₄ q₄)
-      ⊛ ‵ (flft κ₅ q₅)
-      ⊛ ‵ (MutSlice (named 0) κ₀ u64 .own area (s-area ∷ []))
-      ⊛ ‵ (ShrSlice (named 1) κ₁ u64 .own heads (s-heads ∷ []))
-      ⊛ ‵ (ShrSlice (named 2) κ₂ u64 .own kinds (s-kinds ∷ []))
-      ⊛ ‵ (ShrSlice (named 3) κ₃ u64 .own sides (s-sides ∷ []))
-      ⊛ ‵ (ShrSlice (named 4) κ₄ i64 .own bounds (s-bounds ∷ []))
-      ⊛ ‵ (ShrSlice (named 5) κ₅ u64 .own counts (s-counts ∷ []))
-      ⊛ ‵ (S.the-row .own c (v ∷ []))
+      ‵ (flft κ₀ q₀) ⊛ ‵ (flft κ₁ q₁) ⊛ ‵ (flft κ₂ q₂) ⊛ ‵ (flft κ₃ q₃) ⊛ ‵ (flft κ₄ q₄) ⊛ ‵ (flft κ₅ q₅)
+      ⊛ ‵ (MutSlice (named 0) κ₀ u64 .own area (sv area ∷ [])) ⊛ shr 1 κ₁ u64 heads ⊛ shr 2 κ₂ u64 kinds ⊛ shr 3 κ₃ u64 sides ⊛ shr 4 κ₄ i64 bounds
+      ⊛ shr 5 κ₅ u64 counts ⊛ ‵ (S.the-row .own c (v ∷ []))
 
   goes-load : (c : Copied) (v : Val) → ent 𝓤 (⋆ 𝓤 H A (Taken c v ∷ [])) (Load 𝓤 H A at-mem run .pre (to-load c v))
   goes-load c v =
@@ -218,16 +196,9 @@ module _ {M : Type 1} (𝓤 : URA M) (H : Heap 𝓤) (A : Atoms 𝓤) (W : Given
   -- what is left of the parameters
   abbrev Left : Val → Answer → List ℕ → List (Item 𝓤)
   Left v r zs =
-      (‵ (flft κ₀ q₀) ⊛ ‵ (flft κ₁ q₁) ⊛ ‵ (flft κ₂ q₂) ⊛ ‵ (flft κ₃ q₃) ⊛ ‵ (flft κ₄ q₄) ⊛ ‵ (flft κ₅ q₅) ⊛ ‵ ftrue)
-      ∷ (‵ (flft κ₆ q₆) ⊛ ‵ ftrue)
-      ∷ ‵ (finally u64 (area .name) zs)
-      ∷ ‵ (ShrSlice (named 1) κ₁ u64 .own heads (s-heads ∷ []))
-      ∷ ‵ (ShrSlice (named 2) κ₂ u64 .own kinds (s-kinds ∷ []))
-      ∷ ‵ (ShrSlice (named 3) κ₃ u64 .own sides (s-sides ∷ []))
-      ∷ ‵ (ShrSlice (named 4) κ₄ i64 .own bounds (s-bounds ∷ []))
-      ∷ ‵ (ShrSlice (named 5) κ₅ u64 .own counts (s-counts ∷ []))
-      ∷ ‵ (ShrSlice (named 6) κ₆ E.the-row .own entries (s-entries ∷ []))
-      ∷ ‵ (R.the-row .own r (v ∷ []))
+      (‵ (flft κ₀ q₀) ⊛ ‵ (flft κ₁ q₁) ⊛ ‵ (flft κ₂ q₂) ⊛ ‵ (flft κ₃ q₃) ⊛ ‵ (flft κ₄ q₄) ⊛ ‵ (flft κ₅ q₅) ⊛ ‵ ftrue) ∷ (‵ (flft κ₆ q₆) ⊛ ‵ ftrue)
+      ∷ ‵ (finally u64 (area .name) zs) ∷ shr 1 κ₁ u64 heads ∷ shr 2 κ₂ u64 kinds ∷ shr 3 κ₃ u64 sides ∷ shr 4 κ₄ i64 bounds ∷ shr 5 κ₅ u64 counts
+      ∷ shr 6 κ₆ E.the-row entries ∷ ‵ (R.the-row .own r (v ∷ []))
       ∷ []
 
   exits : (v : Val) (r : Answer) (zs : List ℕ)
@@ -255,7 +226,7 @@ module _ {M : Type 1} (𝓤 : URA M) (H : Heap 𝓤) (A : Atoms 𝓤) (W : Given
         → Room u64 (length (counts .now))
         → Room E.the-row (length (entries .now))
         → ent 𝓤 (onEntry 𝓤 H A load-records.signature (κ₀, (κ₁, (κ₂, (κ₃, (κ₄, (κ₅, (κ₆, tt))))))) (q₀, (q₁, (q₂, (q₃, (q₄, (q₅, (q₆, tt))))))) a at)
-        (WpFn 𝓤 H C Λ code.function (s-area ∷ P′.lowered atoms ∷ s-heads ∷ s-kinds ∷ s-sides ∷ s-bounds ∷ s-counts ∷ s-entries ∷ []) Post)
+        (WpFn 𝓤 H C Λ code.function (sv area ∷ P′.lowered atoms ∷ sv heads ∷ sv kinds ∷ sv sides ∷ sv bounds ∷ sv counts ∷ sv entries ∷ []) Post)
     walk room-area room-heads room-kinds room-sides room-bounds room-counts room-entries =
         qed W ((‵ (flft κ₀ q₀) ⊛ ‵ (flft κ₁ q₁) ⊛ ‵ (flft κ₂ q₂) ⊛ ‵ (flft κ₃ q₃)
         ⊛ ‵ (flft κ₄ q₄) ⊛ ‵ (flft κ₅ q₅) ⊛ ‵ (flft κ₆ q₆) ⊛ ‵ ftrue)
@@ -268,85 +239,56 @@ module _ {M : Type 1} (𝓤 : URA M) (H : Heap 𝓤) (A : Atoms 𝓤) (W : Given
         ∷ ShrSlice (named 5) κ₅ u64
         ∷ ShrSlice (named 6) κ₆ E.the-row
         ∷ []) a at) ∷ []) ∵
-        enter ! C Λ code.function (s-area ∷ P′.lowered atoms ∷ s-heads ∷ s-kinds ∷ s-sides ∷ s-bounds ∷ s-counts ∷ s-entries ∷ []) _ $
-        alloc1 ! (λ l₀. alloc1 ! (λ l₁. alloc1 ! (λ l₂. alloc1 ! (λ l₃. alloc1 ! (λ l₄. alloc1 ! (λ l₅. alloc1 ! (λ l₆. alloc1 ! (λ l₇. alloc1 ! (λ l₈. alloc1
-        ! (λ l₉. alloc1 ! (λ l₁₀. alloc1 ! (λ l₁₁. alloc0 ! $ params1 ! $
-        pass1 ! (init ! 20 refl (tt, (tt, (record { fits = room-area .0 }, tt)))) $ pass1 ! (init ! 18 refl (LL.lawful P.the-type P′.the-laws 𝓤 H A W .typed
-        atoms _ fits .0)) $ pass1 ! (init ! 16 refl (tt, (tt, (record { fits = room-heads .0 }, tt)))) $ pass1 ! (init ! 14 refl (
-          tt,
-          (
-            tt,
-            (
-              record {
-                fits =
-                    room-kinds .0;
-              },
-              tt,
-            ),
-          ),
-        )) $ pass1 ! (init ! 12 refl (tt, (tt, (record { fits = room-sides .0 }, tt)))) $ pass1 ! (init ! 10 refl (
-          tt,
-          (
-            tt,
-            (
-              record {
-                fits = room-bounds .0;
-              },
-              tt,
-            ),
-          ),
-        )) $ pass1 ! (init ! 8 refl (tt, (tt, (record { fits = room-counts .0 }, tt)))) $ pass1 ! (init ! 6 refl (
-          tt,
-          (
-            tt,
-            (record { fits = room-entries .0 }, tt),
-          ),
-        )) $ pass0 ! $
+        enter ! C Λ code.function (sv area ∷ P′.lowered atoms ∷ sv heads ∷ sv kinds ∷ sv sides ∷ sv bounds ∷ sv counts ∷ sv entries ∷ []) _ $ alloc1 !
+        (λ l₀. alloc1 ! (λ l₁. alloc1 ! (λ l₂. alloc1 ! (λ l₃. alloc1 ! (λ l₄. alloc1 ! (λ l₅. alloc1 ! (λ l₆. alloc1 ! (λ l₇. alloc1 ! (λ l₈. alloc1
+        ! (λ l₉. alloc1 ! (λ l₁₀. alloc1 ! (λ l₁₁. alloc0 ! $ params1 ! $ pass1 ! (init ! 20 refl (tt, (tt, (record { fits = room-area .0 }, tt)))) $
+        pass1 ! (init ! 18 refl (LL.lawful P.the-type P′.the-laws 𝓤 H A W .typed atoms _ fits .0)) $ pass1 ! (init ! 16 refl
+        (tt, (tt, (record { fits = room-heads .0 }, tt)))) $ pass1 ! (init ! 14 refl (tt, (tt, (record { fits = room-kinds .0 }, tt)))) $ pass1 !
+        (init ! 12 refl (tt, (tt, (record { fits = room-sides .0 }, tt)))) $ pass1 ! (init ! 10 refl
+        (tt, (tt, (record { fits = room-bounds .0 }, tt)))) $ pass1 ! (init ! 8 refl (tt, (tt, (record { fits = room-counts .0 }, tt)))) $ pass1 !
+        (init ! 6 refl (tt, (tt, (record { fits = room-entries .0 }, tt)))) $ pass0 ! $
         -- what the parameters own and the tokens are taken apart; of each list two copies are had
-        move ! (25 ∷ []) $ fsplit ! $ move ! (1 ∷ []) $ fsplit ! $ drop ! $ fsplit ! $ use1 W (‵ (ShrSlice (named 1) κ₁ u64 .own heads (s-heads ∷ [])) ⊛ ‵
-        (ShrSlice (named 1) κ₁ u64 .own heads (s-heads ∷ []))) (shr-slice-copy 𝓤 H A W (named 1) κ₁ u64 .twice heads (s-heads ∷ [])) $ split ! $ move ! (2 ∷
-        []) $ fsplit ! $ use1 W (‵ (ShrSlice (named 2) κ₂ u64 .own kinds (s-kinds ∷ [])) ⊛ ‵ (ShrSlice (named 2) κ₂ u64 .own kinds (s-kinds ∷ [])))
-        (shr-slice-copy 𝓤 H A W (named 2) κ₂ u64 .twice kinds (s-kinds ∷ [])) $ split ! $ move ! (2 ∷ []) $ fsplit ! $ use1 W (‵ (ShrSlice (named 3) κ₃ u64
-        .own sides (s-sides ∷ [])) ⊛ ‵ (ShrSlice (named 3) κ₃ u64 .own sides (s-sides ∷ []))) (shr-slice-copy 𝓤 H A W (named 3) κ₃ u64 .twice sides (s-sides ∷
-        [])) $ split ! $ move ! (2 ∷ []) $ fsplit ! $ use1 W (‵ (ShrSlice (named 4) κ₄ i64 .own bounds (s-bounds ∷ [])) ⊛ ‵ (ShrSlice (named 4) κ₄ i64 .own
-        bounds (s-bounds ∷ []))) (shr-slice-copy 𝓤 H A W (named 4) κ₄ i64 .twice bounds (s-bounds ∷ [])) $ split ! $ move ! (2 ∷ []) $ fsplit ! $ use1 W (‵
-        (ShrSlice (named 5) κ₅ u64 .own counts (s-counts ∷ [])) ⊛ ‵ (ShrSlice (named 5) κ₅ u64 .own counts (s-counts ∷ []))) (shr-slice-copy 𝓤 H A W (named 5)
-        κ₅ u64 .twice counts (s-counts ∷ [])) $ split ! $ move ! (2 ∷ []) $ fsplit ! $ use1 W (‵ (ShrSlice (named 6) κ₆ E.the-row .own entries (s-entries ∷
-        [])) ⊛ ‵ (ShrSlice (named 6) κ₆ E.the-row .own entries (s-entries ∷ []))) (shr-slice-copy 𝓤 H A W (named 6) κ₆ E.the-row .twice entries (s-entries ∷
-        [])) $ split ! $ move ! (2 ∷ []) $ drop ! $ move ! (37 ∷ []) $ split ! $ move ! (1 ∷ []) $ split ! $ move ! (1 ∷ []) $ split ! $ move ! (1 ∷ []) $
-        split ! $ move ! (1 ∷ []) $ split ! $ move ! (1 ∷ []) $ split ! $ move ! (1 ∷ []) $ split ! $ move ! (1 ∷ []) $ drop ! $
+        move ! (25 ∷ []) $ fsplit ! $ move ! (1 ∷ []) $ fsplit ! $ drop ! $ fsplit ! $ use1 W (shr 1 κ₁ u64 heads ⊛ shr 1 κ₁ u64 heads) (two-of 1 κ₁
+        u64 heads) $ split ! $ move ! (2 ∷ []) $ fsplit ! $ use1 W (shr 2 κ₂ u64 kinds ⊛ shr 2 κ₂ u64 kinds) (two-of 2 κ₂ u64 kinds) $ split ! $ move
+        ! (2 ∷ []) $ fsplit ! $ use1 W (shr 3 κ₃ u64 sides ⊛ shr 3 κ₃ u64 sides) (two-of 3 κ₃ u64 sides) $ split ! $ move ! (2 ∷ []) $ fsplit ! $ use1
+        W (shr 4 κ₄ i64 bounds ⊛ shr 4 κ₄ i64 bounds) (two-of 4 κ₄ i64 bounds) $ split ! $ move ! (2 ∷ []) $ fsplit ! $ use1 W (shr 5 κ₅ u64 counts ⊛
+        shr 5 κ₅ u64 counts) (two-of 5 κ₅ u64 counts) $ split ! $ move ! (2 ∷ []) $ fsplit ! $ use1 W (shr 6 κ₆ E.the-row entries ⊛ shr 6 κ₆ E.the-row
+        entries) (two-of 6 κ₆ E.the-row entries) $ split ! $ move ! (2 ∷ []) $ drop ! $ move ! (37 ∷ []) $ split ! $ move ! (1 ∷ []) $ split ! $ move
+        ! (1 ∷ []) $ split ! $ move ! (1 ∷ []) $ split ! $ move ! (1 ∷ []) $ split ! $ move ! (1 ∷ []) $ split ! $ move ! (1 ∷ []) $ split ! $ move !
+        (1 ∷ []) $ drop ! $
         -- `copy_records`
-        move ! (0 ∷ 7 ∷ []) $ use2 W (raw (Copy 𝓤 H A at-mem run .pre to-copy)) goes-copy $ calls-at ! fm (Copy 𝓤 H A at-mem run) known₁ to-copy (and-then !
-        (load ! (from ! (stop !)) (look ! 25 refl)) (no-more !)) (λ v. use1 W (later (some (λ (c : Copied). ((‵ (flft κ₆ q₆) ⊛ ‵ ftrue) ⊛ ‵ (S.the-row .own c
-        (v ∷ []))) ⊛ raw (ensured 𝓤 H A copy-records.ended (copy-records.clauses 𝓤 H A at-mem run) (κ₆, tt) (entries, tt) tt c)))) (id⊢ 𝓤 _) $ await ! tt $
-        pick ! (λ c. split ! $ move ! (1 ∷ []) $ use1 W (raw (fact 𝓤 (CopyOf (entries .now) c))) (copy-said c) $ heard ! (CopyOf (entries .now) c) (λ copy.
-        split ! $ move ! (1 ∷ []) $ peeks ! S.the-row (Is S.the-row) (shows 𝓤 H A S.the-row) c (v ∷ []) (λ is. land ! (from ! (stop !)) (init ! 24 refl
-        (LL.lawful S.the-type S′.the-laws 𝓤 H A W .typed c _ is .0)) $
+        move ! (0 ∷ 7 ∷ []) $ use2 W (raw (Copy 𝓤 H A at-mem run .pre to-copy)) goes-copy $ calls-at ! fm (Copy 𝓤 H A at-mem run) known₁ to-copy
+        (and-then ! (load ! (from ! (stop !)) (look ! 25 refl)) (no-more !)) (λ v. use1 W (later (some (λ (c : Copied). ((‵ (flft κ₆ q₆) ⊛ ‵ ftrue) ⊛
+        ‵ (S.the-row .own c (v ∷ []))) ⊛ raw (ensured 𝓤 H A copy-records.ended (copy-records.clauses 𝓤 H A at-mem run) (κ₆, tt) (entries, tt) tt c))))
+        (id⊢ 𝓤 _) $ await ! tt $ pick ! (λ c. split ! $ move ! (1 ∷ []) $ use1 W (raw (fact 𝓤 (CopyOf (entries .now) c))) (copy-said c) $ heard !
+        (CopyOf (entries .now) c) (λ copy. split ! $ move ! (1 ∷ []) $ peeks ! S.the-row (Is S.the-row) (shows 𝓤 H A S.the-row) c (v ∷ []) (λ is. land
+        ! (from ! (stop !)) (init ! 24 refl (LL.lawful S.the-type S′.the-laws 𝓤 H A W .typed c _ is .0)) $
         -- `load_copied`: the area is lent on for good
-        assigns ! (addr ! (from ! (fld ! refl (hop ! (look-in ! 40 (sub ! 0 refl (whole !))) (stop !))))) (from ! (stop !)) (init ! 22 refl (tt, tt)) $
-        assigns ! (agg ! (and-then ! (load ! (from ! (stop !)) (look ! 22 refl)) (and-then ! (load ! (from ! (fld ! refl (stop !))) (look-in ! 40 (sub ! 1
-        refl (whole !)))) (no-more !)))) (from ! (stop !)) (init ! 20 refl (tt, (tt, (record { fits = room-area .0 }, tt)))) $ move ! (9 ∷ 0 ∷ []) $ join ! $
-        move ! (10 ∷ 0 ∷ []) $ join ! $ move ! (11 ∷ 0 ∷ []) $ join ! $ move ! (12 ∷ 0 ∷ []) $ join ! $ move ! (13 ∷ 0 ∷ []) $ join ! $ move ! (14 ∷ 0 ∷ []) $
-        join ! $ move ! (2 ∷ 0 ∷ []) $ join ! $ move ! (2 ∷ 0 ∷ []) $ join ! $ move ! (2 ∷ 0 ∷ []) $ join ! $ move ! (2 ∷ 0 ∷ []) $ join ! $ move ! (2 ∷ 0 ∷
-        []) $ join ! $ move ! (2 ∷ 0 ∷ []) $ join ! $ use1 W (raw (Load 𝓤 H A at-mem run .pre (to-load c v))) (goes-load c v) $ calls-at ! fm (Load 𝓤 H A
-        at-mem run) known₂ (to-load c v) (and-then ! (load ! (from ! (stop !)) (look ! 8 refl)) (and-then ! (load ! (from ! (stop !)) (look ! 26 refl))
-        (and-then ! (load ! (from ! (stop !)) (look ! 24 refl)) (and-then ! (load ! (from ! (stop !)) (look ! 22 refl)) (and-then ! (load ! (from ! (stop !))
-        (look ! 20 refl)) (and-then ! (load ! (from ! (stop !)) (look ! 18 refl)) (and-then ! (load ! (from ! (stop !)) (look ! 16 refl)) (and-then ! (load !
-        (from ! (stop !)) (look ! 12 refl)) (no-more !))))))))) (λ w. use1 W (later (some (λ (r : Answer). ((‵ (flft κ₀ q₀) ⊛ ‵ (flft κ₁ q₁) ⊛ ‵ (flft κ₂ q₂)
-        ⊛ ‵ (flft κ₃ q₃) ⊛ ‵ (flft κ₄ q₄) ⊛ ‵ (flft κ₅ q₅) ⊛ ‵ ftrue) ⊛ ‵ (R.the-row .own r (w ∷ []))) ⊛ raw (ensured 𝓤 H A load-copied.ended
-        (load-copied.clauses 𝓤 H A at-mem run) (κ₀, (κ₁, (κ₂, (κ₃, (κ₄, (κ₅, tt)))))) (load-args c) tt r)))) (id⊢ 𝓤 _) $ await ! tt $ pick ! (λ r. split ! $
-        move ! (1 ∷ []) $ use1 W (some (λ (zs : List ℕ × (Unit {0} × (Unit {0} × (Unit {0} × (Unit {0} × (Unit {0} × (Unit {0} × (Unit {0} × (Unit
-        {0}))))))))). ‵ (lasts load-copied.ended (κ₀, (κ₁, (κ₂, (κ₃, (κ₄, (κ₅, tt)))))) (load-args c) zs) ⊛ raw (fact 𝓤 (Said c r (zs .0))))) (id⊢ 𝓤 _) $ pick
-        ! (λ zs. split ! $ move ! (1 ∷ []) $ heard ! (Said c r (zs .0)) (λ e. fsplit ! $ fsplit ! $ move ! (1 ∷ []) $ feqL ! (λ l. move ! (1 ∷ []) $ drop ! $
-        move ! (1 ∷ []) $ split ! $ move ! (1 ∷ []) $ peeks ! R.the-row (Is R.the-row) (shows 𝓤 H A R.the-row) r (w ∷ []) (λ is′. land ! (from ! (stop !))
+        assigns ! (addr ! (from ! (fld ! refl (hop ! (look-in ! 40 (sub ! 0 refl (whole !))) (stop !))))) (from ! (stop !)) (init ! 22 refl (tt, tt))
+        $ assigns ! (agg ! (and-then ! (load ! (from ! (stop !)) (look ! 22 refl)) (and-then ! (load ! (from ! (fld ! refl (stop !))) (look-in ! 40
+        (sub ! 1 refl (whole !)))) (no-more !)))) (from ! (stop !)) (init ! 20 refl (tt, (tt, (record { fits = room-area .0 }, tt)))) $ move ! (9 ∷ 0
+        ∷ []) $ join ! $ move ! (10 ∷ 0 ∷ []) $ join ! $ move ! (11 ∷ 0 ∷ []) $ join ! $ move ! (12 ∷ 0 ∷ []) $ join ! $ move ! (13 ∷ 0 ∷ []) $ join !
+        $ move ! (14 ∷ 0 ∷ []) $ join ! $ move ! (2 ∷ 0 ∷ []) $ join ! $ move ! (2 ∷ 0 ∷ []) $ join ! $ move ! (2 ∷ 0 ∷ []) $ join ! $ move ! (2 ∷ 0 ∷
+        []) $ join ! $ move ! (2 ∷ 0 ∷ []) $ join ! $ move ! (2 ∷ 0 ∷ []) $ join ! $ use1 W (raw (Load 𝓤 H A at-mem run .pre (to-load c v)))
+        (goes-load c v) $ calls-at ! fm (Load 𝓤 H A at-mem run) known₂ (to-load c v) (and-then ! (load ! (from ! (stop !)) (look ! 8 refl)) (and-then
+        ! (load ! (from ! (stop !)) (look ! 26 refl)) (and-then ! (load ! (from ! (stop !)) (look ! 24 refl)) (and-then ! (load ! (from ! (stop !))
+        (look ! 22 refl)) (and-then ! (load ! (from ! (stop !)) (look ! 20 refl)) (and-then ! (load ! (from ! (stop !)) (look ! 18 refl)) (and-then !
+        (load ! (from ! (stop !)) (look ! 16 refl)) (and-then ! (load ! (from ! (stop !)) (look ! 12 refl)) (no-more !))))))))) (λ w. use1 W (later
+        (some (λ (r : Answer). ((‵ (flft κ₀ q₀) ⊛ ‵ (flft κ₁ q₁) ⊛ ‵ (flft κ₂ q₂) ⊛ ‵ (flft κ₃ q₃) ⊛ ‵ (flft κ₄ q₄) ⊛ ‵ (flft κ₅ q₅) ⊛ ‵ ftrue) ⊛ ‵
+        (R.the-row .own r (w ∷ []))) ⊛ raw (ensured 𝓤 H A load-copied.ended (load-copied.clauses 𝓤 H A at-mem run)
+        (κ₀, (κ₁, (κ₂, (κ₃, (κ₄, (κ₅, tt)))))) (load-args c) tt r)))) (id⊢ 𝓤 _) $ await ! tt $ pick ! (λ r. split ! $ move ! (1 ∷ []) $ use1 W (some
+        (λ (zs : List ℕ × (Unit {0} × (Unit {0} × (Unit {0} × (Unit {0} × (Unit {0} × (Unit {0} × (Unit {0} × (Unit {0}))))))))). ‵ (lasts
+        load-copied.ended (κ₀, (κ₁, (κ₂, (κ₃, (κ₄, (κ₅, tt)))))) (load-args c) zs) ⊛ raw (fact 𝓤 (Said c r (zs .0))))) (id⊢ 𝓤 _) $ pick ! (λ zs. split
+        ! $ move ! (1 ∷ []) $ heard ! (Said c r (zs .0)) (λ e. fsplit ! $ fsplit ! $ move ! (1 ∷ []) $ feqL ! (λ l. move ! (1 ∷ []) $ drop ! $ move !
+        (1 ∷ []) $ split ! $ move ! (1 ∷ []) $ peeks ! R.the-row (Is R.the-row) (shows 𝓤 H A R.the-row) r (w ∷ []) (λ is′. land ! (from ! (stop !))
         (init ! 32 refl (LL.lawful R.the-type R′.the-laws 𝓤 H A W .typed r _ is′ .0)) $
         -- the exit
-        returns ! (look ! 32 refl) $ forget ! 10 refl $ forget ! 12 refl $ forget ! 14 refl $ forget ! 16 refl $ forget ! 18 refl $ forget ! 20 refl $ forget
-        ! 22 refl $ forget ! 24 refl $ forget ! 26 refl $ forget ! 28 refl $ forget ! 30 refl $ forget ! 32 refl $ move ! (32 ∷ 33 ∷ []) $ free1 ! $ move !
-        (30 ∷ 31 ∷ []) $ free1 ! $ move ! (28 ∷ 29 ∷ []) $ free1 ! $ move ! (26 ∷ 27 ∷ []) $ free1 ! $ move ! (24 ∷ 25 ∷ []) $ free1 ! $ move ! (22 ∷ 23 ∷ [])
-        $ free1 ! $ move ! (20 ∷ 21 ∷ []) $ free1 ! $ move ! (18 ∷ 19 ∷ []) $ free1 ! $ move ! (16 ∷ 17 ∷ []) $ free1 ! $ move ! (14 ∷ 15 ∷ []) $ free1 ! $
-        move ! (12 ∷ 13 ∷ []) $ free1 ! $ move ! (10 ∷ 11 ∷ []) $ free1 ! $ free0 ! $ keep ! (1 ∷ 3 ∷ 2 ∷ 9 ∷ 8 ∷ 7 ∷ 6 ∷ 5 ∷ 4 ∷ 0 ∷ []) $ by ! (exits w r
-        (zs .0) (e (entries .now) copy) l)))))))))))))))))))))))
+        returns ! (look ! 32 refl) $ forget ! 10 refl $ forget ! 12 refl $ forget ! 14 refl $ forget ! 16 refl $ forget ! 18 refl $ forget ! 20 refl $
+        forget ! 22 refl $ forget ! 24 refl $ forget ! 26 refl $ forget ! 28 refl $ forget ! 30 refl $ forget ! 32 refl $ move ! (32 ∷ 33 ∷ []) $
+        free1 ! $ move ! (30 ∷ 31 ∷ []) $ free1 ! $ move ! (28 ∷ 29 ∷ []) $ free1 ! $ move ! (26 ∷ 27 ∷ []) $ free1 ! $ move ! (24 ∷ 25 ∷ []) $ free1
+        ! $ move ! (22 ∷ 23 ∷ []) $ free1 ! $ move ! (20 ∷ 21 ∷ []) $ free1 ! $ move ! (18 ∷ 19 ∷ []) $ free1 ! $ move ! (16 ∷ 17 ∷ []) $ free1 ! $
+        move ! (14 ∷ 15 ∷ []) $ free1 ! $ move ! (12 ∷ 13 ∷ []) $ free1 ! $ move ! (10 ∷ 11 ∷ []) $ free1 ! $ free0 ! $ keep ! (1 ∷ 3 ∷ 2 ∷ 9 ∷ 8 ∷ 7
+        ∷ 6 ∷ 5 ∷ 4 ∷ 0 ∷ []) $ by ! (exits w r (zs .0) (e (entries .now) copy) l)))))))))))))))))))))))
 
 module _ {M : Type 1} (𝓤 : URA M) (H : Heap 𝓤) (A : Atoms 𝓤) (W : Given 𝓤 H A) (at-mem : Memory → SProp 𝓤) (run : Routine → Fun 𝓤) where
   walks : (C : Calls 𝓤 H) (Λ : Loops 𝓤 H) → FmC 𝓤 H (W .laws) C → Triple 𝓤 (C #lent·copy-records) (Copy 𝓤 H A at-mem run)
