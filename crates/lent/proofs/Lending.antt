@@ -147,15 +147,10 @@ module _ (m : ℕ) (F : Lfts (suc (suc m)) → RattleType) (X : Extra (suc (suc 
     lifetimes = suc (suc m);
     outlives = [];
     params = 3;
-    locals = local (B .ty) valueLocal
-        ∷ local (sliceTy (tyRef (named 0) mut (tyInt w64))) valueLocal
-        ∷ local (tyRef (named 1) mut counters-ty) valueLocal
-        ∷ local (X .ty) valueLocal
-        ∷ local (tyStruct (B .name) (tcons (B .ty) (tcons T′.mir tnil))) valueLocal
-        ∷ local (tyRef erased mut (tyInt w64)) valueLocal
-        ∷ local (sliceTy (tyRef erased mut (tyInt w64))) valueLocal
-        ∷ local T′.mir valueLocal
-        ∷ [];
+    locals = local (B .ty) valueLocal ∷ local (sliceTy (tyRef (named 0) mut (tyInt w64))) valueLocal
+        ∷ local (tyRef (named 1) mut counters-ty) valueLocal ∷ local (X .ty) valueLocal
+        ∷ local (tyStruct (B .name) (tcons (B .ty) (tcons T′.mir tnil))) valueLocal ∷ local (tyRef erased mut (tyInt w64)) valueLocal
+        ∷ local (sliceTy (tyRef erased mut (tyInt w64))) valueLocal ∷ local T′.mir valueLocal ∷ [];
     body = body 4 f (copy (place 3 []) ∷ []);
   }
 
@@ -308,14 +303,9 @@ module _ (B : Answer) (f : Name) where
     lifetimes = 2;
     outlives = [];
     params = 2;
-    locals = local (B .ty) valueLocal
-        ∷ local (sliceTy (tyRef (named 0) mut (tyInt w64))) valueLocal
-        ∷ local (tyRef (named 1) mut counters-ty) valueLocal
-        ∷ local (tyStruct (B .name) (tcons (B .ty) (tcons T′.mir tnil))) valueLocal
-        ∷ local (tyRef erased mut (tyInt w64)) valueLocal
-        ∷ local (sliceTy (tyRef erased mut (tyInt w64))) valueLocal
-        ∷ local T′.mir valueLocal
-        ∷ [];
+    locals = local (B .ty) valueLocal ∷ local (sliceTy (tyRef (named 0) mut (tyInt w64))) valueLocal
+        ∷ local (tyRef (named 1) mut counters-ty) valueLocal ∷ local (tyStruct (B .name) (tcons (B .ty) (tcons T′.mir tnil))) valueLocal
+        ∷ local (tyRef erased mut (tyInt w64)) valueLocal ∷ local (sliceTy (tyRef erased mut (tyInt w64))) valueLocal ∷ local T′.mir valueLocal ∷ [];
     body = body 3 f [];
   }
 

@@ -66,17 +66,10 @@ module _ (m : ℕ) (F : Lfts (suc m) → RattleType) (X : Extra (suc m) F) (B : 
     lifetimes = suc m;
     outlives = [];
     params = 3;
-    locals = local (tyStruct (B .name) (tcons (B .ty) (tcons T′.mir tnil))) valueLocal
-        ∷ local (sliceTy (tyRef (named 0) mut (tyInt w64))) valueLocal
-        ∷ local T′.mir valueLocal
-        ∷ local (X .ty) valueLocal
-        ∷ local T′.mir memorySlot
-        ∷ local (B .ty) valueLocal
-        ∷ local (tyRef erased mut (tyInt w64)) valueLocal
-        ∷ local (sliceTy (tyRef erased mut (tyInt w64))) valueLocal
-        ∷ local (tyRef erased mut counters-ty) valueLocal
-        ∷ local T′.mir valueLocal
-        ∷ [];
+    locals = local (tyStruct (B .name) (tcons (B .ty) (tcons T′.mir tnil))) valueLocal ∷ local (sliceTy (tyRef (named 0) mut (tyInt w64))) valueLocal
+        ∷ local T′.mir valueLocal ∷ local (X .ty) valueLocal ∷ local T′.mir memorySlot ∷ local (B .ty) valueLocal
+        ∷ local (tyRef erased mut (tyInt w64)) valueLocal ∷ local (sliceTy (tyRef erased mut (tyInt w64))) valueLocal
+        ∷ local (tyRef erased mut counters-ty) valueLocal ∷ local T′.mir valueLocal ∷ [];
     body = seq (assign (place 4 []) (rvOpd (copy (place 2 []))))
         (seq (assign (place 6 []) (addrOf (place 1 (field 0 ∷ deref (tyInt w64) ∷ []))))
         (seq (assign (place 7 []) (aggregate (copy (place 6 []) ∷ copy (place 1 (field 1 ∷ [])) ∷ [])))

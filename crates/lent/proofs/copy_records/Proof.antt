@@ -207,9 +207,7 @@ module _ {M : Type 1} (𝓤 : URA M) (H : Heap 𝓤) (A : Atoms 𝓤) (W : Given
     -- what the call takes
     abbrev Taken : ℕ → ℕ → GName → GName → List ℤ → List ℤ → Item 𝓤
     Taken ν ν′ δ δ′ ws ls =
-        ‵ (flft (ν ∷ []) fullShare)
-        ⊛ ‵ (flft (ν′ ∷ []) fullShare)
-        ⊛ ‵ (MutRef (named 0) (ν ∷ []) Column .own (at-column b₁ δ ws) (vptr b₁ 0 ∷ []))
+        ‵ (flft (ν ∷ []) fullShare) ⊛ ‵ (flft (ν′ ∷ []) fullShare) ⊛ ‵ (MutRef (named 0) (ν ∷ []) Column .own (at-column b₁ δ ws) (vptr b₁ 0 ∷ []))
         ⊛ ‵ (MutRef (named 1) (ν′ ∷ []) Column .own (at-column b₂ δ′ ls) (vptr b₂ 0 ∷ []))
 
     goes-one : (ν ν′ : ℕ) (δ δ′ : GName) (ws ls : List ℤ) (i : ℕ) → i + 1 < 2 ^ 64
@@ -273,21 +271,8 @@ module _ {M : Type 1} (𝓤 : URA M) (H : Heap 𝓤) (A : Atoms 𝓤) (W : Given
     Λ = 𝓣 .Λ
 
     abbrev En : Env 𝓤 H
-    En = (S′.mir, l₀)
-        ∷ (recordsTy, l₁)
-        ∷ (column-type, l₂)
-        ∷ (column-type, l₃)
-        ∷ (column-type, l₄)
-        ∷ (tyInt w64, l₅)
-        ∷ (tyInt w64, l₆)
-        ∷ (tyBool, l₇)
-        ∷ (tyUnit, l₈)
-        ∷ (refTy, l₉)
-        ∷ (refTy, l₁₀)
-        ∷ (tyPtr, l₁₁)
-        ∷ (E′.mir, l₁₂)
-        ∷ (column-type, l₁₃)
-        ∷ (column-type, l₁₄) ∷ []
+    En = (S′.mir, l₀) ∷ (recordsTy, l₁) ∷ (column-type, l₂) ∷ (column-type, l₃) ∷ (column-type, l₄) ∷ (tyInt w64, l₅) ∷ (tyInt w64, l₆) ∷ (tyBool, l₇)
+        ∷ (tyUnit, l₈) ∷ (refTy, l₉) ∷ (refTy, l₁₀) ∷ (tyPtr, l₁₁) ∷ (E′.mir, l₁₂) ∷ (column-type, l₁₃) ∷ (column-type, l₁₄) ∷ []
 
     is-made : (z : State) → Is S.the-row (copied z) (S′.lowered (copied z) ∷ [])
     is-made z = is-copied (copied z) (z .is-ws) (z .is-ls) (up-to (z .i) n (z .within) (room .0))
@@ -295,21 +280,13 @@ module _ {M : Type 1} (𝓤 : URA M) (H : Heap 𝓤) (A : Atoms 𝓤) (W : Given
     -- the records' fractured borrow and its token; the locals, from the last to the first; and the records whole, for the exit
     abbrev At : State → List (Item 𝓤)
     At z = ‵ (fshr-bor κ (λ p. arr-parts (shares E.the-row) n .part p rs b o)) ∷ ‵ (flft κ q)
-        ∷ ‵ (froom column-type l₁₄ 0) ∷ ‵ (fdies column-type l₁₄)
-        ∷ ‵ (froom column-type l₁₃ 0) ∷ ‵ (fdies column-type l₁₃)
-        ∷ ‵ (froom E′.mir l₁₂ 0) ∷ ‵ (fdies E′.mir l₁₂)
-        ∷ ‵ (froom tyPtr l₁₁ 0) ∷ ‵ (fdies tyPtr l₁₁)
-        ∷ ‵ (froom refTy l₁₀ 0) ∷ ‵ (fdies refTy l₁₀)
-        ∷ ‵ (froom refTy l₉ 0) ∷ ‵ (fdies refTy l₉)
-        ∷ ‵ (froom tyUnit l₈ 0) ∷ ‵ (fdies tyUnit l₈)
-        ∷ ‵ (froom tyBool l₇ 0) ∷ ‵ (fdies tyBool l₇)
-        ∷ ‵ (froom (tyInt w64) l₆ 0) ∷ ‵ (fdies (tyInt w64) l₆)
-        ∷ ‵ (fat fullShare (tyInt w64) l₅ 0 (vint w64 (z .i))) ∷ ‵ (fdies (tyInt w64) l₅)
+        ∷ ‵ (froom column-type l₁₄ 0) ∷ ‵ (fdies column-type l₁₄) ∷ ‵ (froom column-type l₁₃ 0) ∷ ‵ (fdies column-type l₁₃)
+        ∷ ‵ (froom E′.mir l₁₂ 0) ∷ ‵ (fdies E′.mir l₁₂) ∷ ‵ (froom tyPtr l₁₁ 0) ∷ ‵ (fdies tyPtr l₁₁) ∷ ‵ (froom refTy l₁₀ 0) ∷ ‵ (fdies refTy l₁₀)
+        ∷ ‵ (froom refTy l₉ 0) ∷ ‵ (fdies refTy l₉) ∷ ‵ (froom tyUnit l₈ 0) ∷ ‵ (fdies tyUnit l₈) ∷ ‵ (froom tyBool l₇ 0) ∷ ‵ (fdies tyBool l₇)
+        ∷ ‵ (froom (tyInt w64) l₆ 0) ∷ ‵ (fdies (tyInt w64) l₆) ∷ ‵ (fat fullShare (tyInt w64) l₅ 0 (vint w64 (z .i))) ∷ ‵ (fdies (tyInt w64) l₅)
         ∷ ‵ (fat fullShare column-type l₄ 0 (column-val (z .ls))) ∷ ‵ (fdies column-type l₄)
-        ∷ ‵ (fat fullShare column-type l₃ 0 (column-val (z .ws))) ∷ ‵ (fdies column-type l₃)
-        ∷ ‵ (froom column-type l₂ 0) ∷ ‵ (fdies column-type l₂)
-        ∷ ‵ (fat fullShare recordsTy l₁ 0 u) ∷ ‵ (fdies recordsTy l₁)
-        ∷ ‵ (froom S′.mir l₀ 0) ∷ ‵ (fdies S′.mir l₀)
+        ∷ ‵ (fat fullShare column-type l₃ 0 (column-val (z .ws))) ∷ ‵ (fdies column-type l₃) ∷ ‵ (froom column-type l₂ 0) ∷ ‵ (fdies column-type l₂)
+        ∷ ‵ (fat fullShare recordsTy l₁ 0 u) ∷ ‵ (fdies recordsTy l₁) ∷ ‵ (froom S′.mir l₀ 0) ∷ ‵ (fdies S′.mir l₀)
         ∷ ‵ (ShrSlice (named 0) κ E.the-row .own y (u ∷ [])) ∷ []
 
     abbrev Turned : State → Out → SProp 𝓤
@@ -382,22 +359,13 @@ module _ {M : Type 1} (𝓤 : URA M) (H : Heap 𝓤) (A : Atoms 𝓤) (W : Given
 
     -- where the blank column is in its local
     abbrev Before : List ℤ → List (Item 𝓤)
-    Before xs = ‵ (froom column-type l₁₄ 0) ∷ ‵ (fdies column-type l₁₄)
-        ∷ ‵ (froom column-type l₁₃ 0) ∷ ‵ (fdies column-type l₁₃)
-        ∷ ‵ (froom E′.mir l₁₂ 0) ∷ ‵ (fdies E′.mir l₁₂)
-        ∷ ‵ (froom tyPtr l₁₁ 0) ∷ ‵ (fdies tyPtr l₁₁)
-        ∷ ‵ (froom refTy l₁₀ 0) ∷ ‵ (fdies refTy l₁₀)
-        ∷ ‵ (froom refTy l₉ 0) ∷ ‵ (fdies refTy l₉)
-        ∷ ‵ (froom tyUnit l₈ 0) ∷ ‵ (fdies tyUnit l₈)
-        ∷ ‵ (froom tyBool l₇ 0) ∷ ‵ (fdies tyBool l₇)
-        ∷ ‵ (froom (tyInt w64) l₆ 0) ∷ ‵ (fdies (tyInt w64) l₆)
-        ∷ ‵ (froom (tyInt w64) l₅ 0) ∷ ‵ (fdies (tyInt w64) l₅)
-        ∷ ‵ (froom column-type l₄ 0) ∷ ‵ (fdies column-type l₄)
-        ∷ ‵ (froom column-type l₃ 0) ∷ ‵ (fdies column-type l₃)
-        ∷ ‵ (fat fullShare column-type l₂ 0 (column-val xs)) ∷ ‵ (fdies column-type l₂)
-        ∷ ‵ (fat fullShare recordsTy l₁ 0 u) ∷ ‵ (fdies recordsTy l₁)
-        ∷ ‵ (froom S′.mir l₀ 0) ∷ ‵ (fdies S′.mir l₀)
-        ∷ (‵ (flft κ q) ⊛ ‵ ftrue) ∷ ‵ (owns (ShrSlice (named 0) κ E.the-row ∷ []) (y, tt) at) ∷ []
+    Before xs = ‵ (froom column-type l₁₄ 0) ∷ ‵ (fdies column-type l₁₄) ∷ ‵ (froom column-type l₁₃ 0) ∷ ‵ (fdies column-type l₁₃)
+        ∷ ‵ (froom E′.mir l₁₂ 0) ∷ ‵ (fdies E′.mir l₁₂) ∷ ‵ (froom tyPtr l₁₁ 0) ∷ ‵ (fdies tyPtr l₁₁) ∷ ‵ (froom refTy l₁₀ 0) ∷ ‵ (fdies refTy l₁₀)
+        ∷ ‵ (froom refTy l₉ 0) ∷ ‵ (fdies refTy l₉) ∷ ‵ (froom tyUnit l₈ 0) ∷ ‵ (fdies tyUnit l₈) ∷ ‵ (froom tyBool l₇ 0) ∷ ‵ (fdies tyBool l₇)
+        ∷ ‵ (froom (tyInt w64) l₆ 0) ∷ ‵ (fdies (tyInt w64) l₆) ∷ ‵ (froom (tyInt w64) l₅ 0) ∷ ‵ (fdies (tyInt w64) l₅)
+        ∷ ‵ (froom column-type l₄ 0) ∷ ‵ (fdies column-type l₄) ∷ ‵ (froom column-type l₃ 0) ∷ ‵ (fdies column-type l₃)
+        ∷ ‵ (fat fullShare column-type l₂ 0 (column-val xs)) ∷ ‵ (fdies column-type l₂) ∷ ‵ (fat fullShare recordsTy l₁ 0 u) ∷ ‵ (fdies recordsTy l₁)
+        ∷ ‵ (froom S′.mir l₀ 0) ∷ ‵ (fdies S′.mir l₀) ∷ (‵ (flft κ q) ⊛ ‵ ftrue) ∷ ‵ (owns (ShrSlice (named 0) κ E.the-row ∷ []) (y, tt) at) ∷ []
 
     begun : (xs : List ℤ) → IsColumn xs → Sq W (Before xs) (runs C Λ En code-mir.t-2 (atRet En Post))
     begun xs g =

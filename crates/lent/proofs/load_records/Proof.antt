@@ -198,8 +198,7 @@ module _ {M : Type 1} (𝓤 : URA M) (H : Heap 𝓤) (A : Atoms 𝓤) (W : Given
   Left v r zs =
       (‵ (flft κ₀ q₀) ⊛ ‵ (flft κ₁ q₁) ⊛ ‵ (flft κ₂ q₂) ⊛ ‵ (flft κ₃ q₃) ⊛ ‵ (flft κ₄ q₄) ⊛ ‵ (flft κ₅ q₅) ⊛ ‵ ftrue) ∷ (‵ (flft κ₆ q₆) ⊛ ‵ ftrue)
       ∷ ‵ (finally u64 (area .name) zs) ∷ shr 1 κ₁ u64 heads ∷ shr 2 κ₂ u64 kinds ∷ shr 3 κ₃ u64 sides ∷ shr 4 κ₄ i64 bounds ∷ shr 5 κ₅ u64 counts
-      ∷ shr 6 κ₆ E.the-row entries ∷ ‵ (R.the-row .own r (v ∷ []))
-      ∷ []
+      ∷ shr 6 κ₆ E.the-row entries ∷ ‵ (R.the-row .own r (v ∷ [])) ∷ []
 
   exits : (v : Val) (r : Answer) (zs : List ℕ)
       → Loads base-limits (area .now) zs (atoms .0) (columns (heads .now) (kinds .now) (sides .now) (bounds .now) (counts .now)
@@ -228,17 +227,9 @@ module _ {M : Type 1} (𝓤 : URA M) (H : Heap 𝓤) (A : Atoms 𝓤) (W : Given
         → ent 𝓤 (onEntry 𝓤 H A load-records.signature (κ₀, (κ₁, (κ₂, (κ₃, (κ₄, (κ₅, (κ₆, tt))))))) (q₀, (q₁, (q₂, (q₃, (q₄, (q₅, (q₆, tt))))))) a at)
         (WpFn 𝓤 H C Λ code.function (sv area ∷ P′.lowered atoms ∷ sv heads ∷ sv kinds ∷ sv sides ∷ sv bounds ∷ sv counts ∷ sv entries ∷ []) Post)
     walk room-area room-heads room-kinds room-sides room-bounds room-counts room-entries =
-        qed W ((‵ (flft κ₀ q₀) ⊛ ‵ (flft κ₁ q₁) ⊛ ‵ (flft κ₂ q₂) ⊛ ‵ (flft κ₃ q₃)
-        ⊛ ‵ (flft κ₄ q₄) ⊛ ‵ (flft κ₅ q₅) ⊛ ‵ (flft κ₆ q₆) ⊛ ‵ ftrue)
-        ∷ ‵ (owns (MutSlice (named 0) κ₀ u64
-        ∷ P.the-row
-        ∷ ShrSlice (named 1) κ₁ u64
-        ∷ ShrSlice (named 2) κ₂ u64
-        ∷ ShrSlice (named 3) κ₃ u64
-        ∷ ShrSlice (named 4) κ₄ i64
-        ∷ ShrSlice (named 5) κ₅ u64
-        ∷ ShrSlice (named 6) κ₆ E.the-row
-        ∷ []) a at) ∷ []) ∵
+        qed W ((‵ (flft κ₀ q₀) ⊛ ‵ (flft κ₁ q₁) ⊛ ‵ (flft κ₂ q₂) ⊛ ‵ (flft κ₃ q₃) ⊛ ‵ (flft κ₄ q₄) ⊛ ‵ (flft κ₅ q₅) ⊛ ‵ (flft κ₆ q₆) ⊛ ‵ ftrue)
+        ∷ ‵ (owns (MutSlice (named 0) κ₀ u64 ∷ P.the-row ∷ ShrSlice (named 1) κ₁ u64 ∷ ShrSlice (named 2) κ₂ u64 ∷ ShrSlice (named 3) κ₃ u64
+        ∷ ShrSlice (named 4) κ₄ i64 ∷ ShrSlice (named 5) κ₅ u64 ∷ ShrSlice (named 6) κ₆ E.the-row ∷ []) a at) ∷ []) ∵
         enter ! C Λ code.function (sv area ∷ P′.lowered atoms ∷ sv heads ∷ sv kinds ∷ sv sides ∷ sv bounds ∷ sv counts ∷ sv entries ∷ []) _ $ alloc1 !
         (λ l₀. alloc1 ! (λ l₁. alloc1 ! (λ l₂. alloc1 ! (λ l₃. alloc1 ! (λ l₄. alloc1 ! (λ l₅. alloc1 ! (λ l₆. alloc1 ! (λ l₇. alloc1 ! (λ l₈. alloc1
         ! (λ l₉. alloc1 ! (λ l₁₀. alloc1 ! (λ l₁₁. alloc0 ! $ params1 ! $ pass1 ! (init ! 20 refl (tt, (tt, (record { fits = room-area .0 }, tt)))) $

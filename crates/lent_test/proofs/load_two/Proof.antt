@@ -20,7 +20,7 @@ use ghost.Atoms.{Atoms, sem}
 use contract.Lifetimes.{AllOutlive}
 use contract.Monad.{Fun, fact}
 use contract.Running.{givenOf, tables, tablesOf}
-use types.Kit.{Item, fpick, fpack, Given, ‵, raw, _⊛_, ⋆, some, later, _$_, _∵_, !, qed, by, move, keep, drop, use1, split, join, pick, rewrite, fsplit, fjoin, feqL, suffices, frame, await, done}
+use types.Kit.{Item, fpick, fpack, Given, ‵, raw, _⊛_, mean, ⋆, some, later, _$_, _∵_, !, qed, by, move, keep, drop, use1, split, join, pick, rewrite, fsplit, fjoin, feqL, suffices, frame, await, done}
 use types.Part.{agg, whole, sub, look-in}
 use types.Run.{lit, look, init, forget, stop, hop, fld, from, load, addr, of-opd, and-then, no-more, assigns, land, returns, enter, alloc1, alloc0, params1, pass1, pass0, free1, free0}
 use types.Tokens.{lft-new, lft-end, lent-back}
@@ -83,6 +83,9 @@ pair-tells = array-tells E.the-row (LL.vals E.the-type E′.the-laws) (LL.tells 
 
 abbrev pvals : Atom → List Val
 pvals = LL.vals P.the-type P′.the-laws
+
+abbrev sv : {X : Type 0} → RefT (List X) → Val
+sv x = sliceVal (x .ptr) (length (x .now))
 
 abbrev stayed : Stays (load-two.ended .signature .params) (load-two.ended .kept)
 stayed = (
@@ -157,23 +160,11 @@ module _ {M : Type 1} (𝓤 : URA M) (H : Heap 𝓤) (A : Atoms 𝓤) (W : Given
     (q₀ q₁ q₂ q₃ q₄ q₅ : Share) (area : RefT (List ℕ)) (atoms : Atom) (fits : Is P.the-row atoms (pvals atoms))
     (heads kinds sides : RefT (List ℕ)) (bounds : RefT (List ℤ)) (counts : RefT (List ℕ)) (entries : List Weighted)
     (ge : Is Pair entries (pair-vals entries)) where
-  abbrev s-area : Val
-  s-area = sliceVal (area .ptr) (length (area .now))
+  abbrev shr : (j : ℕ) → Lft → (R : RattleType) → RefT (List (R .Denot)) → Item 𝓤
+  shr j κ R x = ‵ (ShrSlice (named j) κ R .own x (sv x ∷ []))
 
-  abbrev s-heads : Val
-  s-heads = sliceVal (heads .ptr) (length (heads .now))
-
-  abbrev s-kinds : Val
-  s-kinds = sliceVal (kinds .ptr) (length (kinds .now))
-
-  abbrev s-sides : Val
-  s-sides = sliceVal (sides .ptr) (length (sides .now))
-
-  abbrev s-bounds : Val
-  s-bounds = sliceVal (bounds .ptr) (length (bounds .now))
-
-  abbrev s-counts : Val
-  s-counts = sliceVal (counts .ptr) (length (counts .now))
+  abbrev two-of : (j : ℕ) (κ : Lft) (R : RattleType) (x : RefT (List (R .Denot))) → ent 𝓤 (mean 𝓤 H A (shr j κ R x)) (mean 𝓤 H A (shr j κ R x ⊛ shr j κ R x))
+  two-of j κ R x = shr-slice-copy 𝓤 H A W (named j) κ R .twice x (sv x ∷ [])
 
   abbrev Arg : Type 0
   Arg = RefT (List ℕ) × (Atom × (RefT (List ℕ) × (RefT (List ℕ) × (RefT (List ℕ) × (RefT (List ℤ) × (RefT (List ℕ) × (List Weighted × Unit {0})))))))
@@ -185,7 +176,7 @@ module _ {M : Type 1} (𝓤 : URA M) (H : Heap 𝓤) (A : Atoms 𝓤) (W : Given
   Vals = List Val × (List Val × (List Val × (List Val × (List Val × (List Val × (List Val × (List Val × (Unit {0}))))))))
 
   abbrev at : Vals
-  at = (s-area ∷ [], (pvals atoms, (s-heads ∷ [], (s-kinds ∷ [], (s-sides ∷ [], (s-bounds ∷ [], (s-counts ∷ [], (pair-vals entries, tt))))))))
+  at = (sv area ∷ [], (pvals atoms, (sv heads ∷ [], (sv kinds ∷ [], (sv sides ∷ [], (sv bounds ∷ [], (sv counts ∷ [], (pair-vals entries, tt))))))))
 
   abbrev Post : Val → SProp 𝓤
   Post = walkOf 𝓤 H A load-two.ended stayed (load-two.clauses 𝓤 H A at-mem run) .post
@@ -208,7 +199,7 @@ module _ {M : Type 1} (𝓤 : URA M) (H : Heap 𝓤) (A : Atoms 𝓤) (W : Given
       (q₀, (q₁, (q₂, (q₃, (q₄, (q₅, (fullShare, tt))))))),
       tt,
       args b δ,
-      (s-area ∷ [], (pvals atoms, (s-heads ∷ [], (s-kinds ∷ [], (s-sides ∷ [], (s-bounds ∷ [], (s-counts ∷ [], (sliceVal (b, 0) 2 ∷ [], tt)))))))),
+      (sv area ∷ [], (pvals atoms, (sv heads ∷ [], (sv kinds ∷ [], (sv sides ∷ [], (sv bounds ∷ [], (sv counts ∷ [], (sliceVal (b, 0) 2 ∷ [], tt)))))))),
     ),
     tt,
   )
@@ -216,20 +207,9 @@ module _ {M : Type 1} (𝓤 : URA M) (H : Heap 𝓤) (A : Atoms 𝓤) (W : Given
   -- what the call takes
   abbrev Taken : ℕ → ℕ → GName → Item 𝓤
   Taken b ν δ =
-      ‵ (flft κ₀ q₀)
-      ⊛ ‵ (flft κ₁ q₁)
-      ⊛ ‵ (flft κ₂ q₂)
-      ⊛ ‵ (flft κ₃ q₃)
-      ⊛ ‵ (flft κ₄ q₄)
-      ⊛ ‵ (flft κ₅ q₅)
-      ⊛ ‵ (flft (ν ∷ []) fullShare)
-      ⊛ ‵ (MutSlice (named 0) κ₀ u64 .own area (s-area ∷ []))
-      ⊛ ‵ (ShrSlice (named 1) κ₁ u64 .own heads (s-heads ∷ []))
-      ⊛ ‵ (ShrSlice (named 2) κ₂ u64 .own kinds (s-kinds ∷ []))
-      ⊛ ‵ (ShrSlice (named 3) κ₃ u64 .own sides (s-sides ∷ []))
-      ⊛ ‵ (ShrSlice (named 4) κ₄ i64 .own bounds (s-bounds ∷ []))
-      ⊛ ‵ (ShrSlice (named 5) κ₅ u64 .own counts (s-counts ∷ []))
-      ⊛ ‵ (ShrSlice (named 6) (ν ∷ []) E.the-row .own (lent-at b δ) (sliceVal (b, 0) 2 ∷ []))
+      ‵ (flft κ₀ q₀) ⊛ ‵ (flft κ₁ q₁) ⊛ ‵ (flft κ₂ q₂) ⊛ ‵ (flft κ₃ q₃) ⊛ ‵ (flft κ₄ q₄) ⊛ ‵ (flft κ₅ q₅) ⊛ ‵ (flft (ν ∷ []) fullShare)
+      ⊛ ‵ (MutSlice (named 0) κ₀ u64 .own area (sv area ∷ [])) ⊛ shr 1 κ₁ u64 heads ⊛ shr 2 κ₂ u64 kinds ⊛ shr 3 κ₃ u64 sides ⊛ shr 4 κ₄ i64 bounds
+      ⊛ shr 5 κ₅ u64 counts ⊛ ‵ (ShrSlice (named 6) (ν ∷ []) E.the-row .own (lent-at b δ) (sliceVal (b, 0) 2 ∷ []))
 
   goes-core : (b ν : ℕ) (δ : GName) → ent 𝓤 (⋆ 𝓤 H A (Taken b ν δ ∷ [])) (Core 𝓤 H A at-mem run .pre (to-core b ν δ))
   goes-core b ν δ =
@@ -251,20 +231,8 @@ module _ {M : Type 1} (𝓤 : URA M) (H : Heap 𝓤) (A : Atoms 𝓤) (W : Given
   -- what is left at the exit, where the answer r is the machine value v
   abbrev Left : Val → Answer → List ℕ → List (Item 𝓤)
   Left v r zs =
-      ‵ (flft κ₀ q₀)
-      ∷ ‵ (flft κ₁ q₁)
-      ∷ ‵ (flft κ₂ q₂)
-      ∷ ‵ (flft κ₃ q₃)
-      ∷ ‵ (flft κ₄ q₄)
-      ∷ ‵ (flft κ₅ q₅)
-      ∷ ‵ (finally u64 (area .name) zs)
-      ∷ ‵ (ShrSlice (named 1) κ₁ u64 .own heads (s-heads ∷ []))
-      ∷ ‵ (ShrSlice (named 2) κ₂ u64 .own kinds (s-kinds ∷ []))
-      ∷ ‵ (ShrSlice (named 3) κ₃ u64 .own sides (s-sides ∷ []))
-      ∷ ‵ (ShrSlice (named 4) κ₄ i64 .own bounds (s-bounds ∷ []))
-      ∷ ‵ (ShrSlice (named 5) κ₅ u64 .own counts (s-counts ∷ []))
-      ∷ ‵ (R.the-row .own r (v ∷ []))
-      ∷ []
+      ‵ (flft κ₀ q₀) ∷ ‵ (flft κ₁ q₁) ∷ ‵ (flft κ₂ q₂) ∷ ‵ (flft κ₃ q₃) ∷ ‵ (flft κ₄ q₄) ∷ ‵ (flft κ₅ q₅) ∷ ‵ (finally u64 (area .name) zs)
+      ∷ shr 1 κ₁ u64 heads ∷ shr 2 κ₂ u64 kinds ∷ shr 3 κ₃ u64 sides ∷ shr 4 κ₄ i64 bounds ∷ shr 5 κ₅ u64 counts ∷ ‵ (R.the-row .own r (v ∷ [])) ∷ []
 
   exits : (v : Val) (r : Answer) (zs : List ℕ) → Said r zs → length zs ≡ length (area .now) → ent 𝓤 (⋆ 𝓤 H A (Left v r zs)) (Post v)
   exits v r zs e l =
@@ -286,94 +254,67 @@ module _ {M : Type 1} (𝓤 : URA M) (H : Heap 𝓤) (A : Atoms 𝓤) (W : Given
         → Room i64 (length (bounds .now))
         → Room u64 (length (counts .now))
         → ent 𝓤 (onEntry 𝓤 H A load-two.signature (κ₀, (κ₁, (κ₂, (κ₃, (κ₄, (κ₅, tt)))))) (q₀, (q₁, (q₂, (q₃, (q₄, (q₅, tt)))))) a at)
-        (WpFn 𝓤 H C Λ code.function (s-area ∷ P′.lowered atoms ∷ s-heads ∷ s-kinds ∷ s-sides ∷ s-bounds ∷ s-counts ∷ pair-val entries ∷ []) Post)
+        (WpFn 𝓤 H C Λ code.function (sv area ∷ P′.lowered atoms ∷ sv heads ∷ sv kinds ∷ sv sides ∷ sv bounds ∷ sv counts ∷ pair-val entries ∷ []) Post)
     walk room-area room-heads room-kinds room-sides room-bounds room-counts =
         qed W ((‵ (flft κ₀ q₀) ⊛ ‵ (flft κ₁ q₁) ⊛ ‵ (flft κ₂ q₂) ⊛ ‵ (flft κ₃ q₃) ⊛ ‵ (flft κ₄ q₄) ⊛ ‵ (flft κ₅ q₅) ⊛ ‵ ftrue)
-        ∷ ‵ (owns (MutSlice (named 0) κ₀ u64
-        ∷ P.the-row
-        ∷ ShrSlice (named 1) κ₁ u64
-        ∷ ShrSlice (named 2) κ₂ u64
-        ∷ ShrSlice (named 3) κ₃ u64
-        ∷ ShrSlice (named 4) κ₄ i64
-        ∷ ShrSlice (named 5) κ₅ u64
-        ∷ Pair
-        ∷ []) a at) ∷ []) ∵
-        enter ! C Λ code.function (s-area ∷ P′.lowered atoms ∷ s-heads ∷ s-kinds ∷ s-sides ∷ s-bounds ∷ s-counts ∷ pair-val entries ∷ []) _ $
-        alloc1 ! (λ l₀. alloc1 ! (λ l₁. alloc1 ! (λ l₂. alloc1 ! (λ l₃. alloc1 ! (λ l₄. alloc1 ! (λ l₅. alloc1 ! (λ l₆. alloc1 ! (λ l₇. alloc1 ! (λ l₈. alloc1
-        ! (λ l₉. alloc1 ! (λ l₁₀. alloc1 ! (λ l₁₁. alloc1 ! (λ l₁₂. alloc1 ! (λ l₁₃. alloc0 ! $ params1 ! $
-        pass1 ! (init ! 24 refl (tt, (tt, (record { fits = room-area .0 }, tt)))) $ pass1 ! (init ! 22 refl (LL.lawful P.the-type P′.the-laws 𝓤 H A W .typed
-        atoms _ fits .0)) $ pass1 ! (init ! 20 refl (tt, (tt, (record { fits = room-heads .0 }, tt)))) $ pass1 ! (init ! 18 refl (
-          tt,
-          (
-            tt,
-            (
-              record {
-                fits =
-                    room-kinds .0;
-              },
-              tt,
-            ),
-          ),
-        )) $ pass1 ! (init ! 16 refl (tt, (tt, (record { fits = room-sides .0 }, tt)))) $ pass1 ! (init ! 14 refl (
-          tt,
-          (
-            tt,
-            (
-              record {
-                fits = room-bounds .0;
-              },
-              tt,
-            ),
-          ),
-        )) $ pass1 ! (init ! 12 refl (tt, (tt, (record { fits = room-counts .0 }, tt)))) $ pass1 ! (init ! 10 refl (array-lawful
-        𝓤 H A W E.the-row (LL.lawful E.the-type E′.the-laws 𝓤 H A W) 2 .typed entries _ ge .0)) $ pass0 ! $ assigns ! (of-opd ! (load ! (from ! (stop !))
-        (look ! 10 refl))) (from ! (stop !)) (init ! 8 refl (array-lawful 𝓤 H A W E.the-row (LL.lawful E.the-type E′.the-laws 𝓤 H A W) 2 .typed entries _ ge
-        .0)) $ assigns ! (addr ! (from ! (fld ! refl (hop ! (look-in ! 24 (sub ! 0 refl (whole !))) (stop !))))) (from ! (stop !)) (init ! 6 refl (tt, tt)) $
-        assigns ! (agg ! (and-then ! (load ! (from ! (stop !)) (look ! 6 refl)) (and-then ! (load ! (from ! (fld ! refl (stop !))) (look-in ! 24 (sub ! 1 refl
-        (whole !)))) (no-more !)))) (from ! (stop !)) (init ! 4 refl (tt, (tt, (record { fits = room-area .0 }, tt)))) $ assigns ! (addr ! (from ! (stop !)))
-        (from ! (stop !)) (init ! 2 refl (tt, tt)) $ assigns ! (agg ! (and-then ! (load ! (from ! (stop !)) (look ! 2 refl)) (and-then ! (lit ! tt) (no-more
-        !)))) (from ! (stop !)) (init ! 0 refl (tt, (tt, (record { fits = lit< tt }, tt)))) $
+        ∷ ‵ (owns (MutSlice (named 0) κ₀ u64 ∷ P.the-row ∷ ShrSlice (named 1) κ₁ u64 ∷ ShrSlice (named 2) κ₂ u64 ∷ ShrSlice (named 3) κ₃ u64
+        ∷ ShrSlice (named 4) κ₄ i64 ∷ ShrSlice (named 5) κ₅ u64 ∷ Pair ∷ []) a at) ∷ []) ∵
+        enter ! C Λ code.function (sv area ∷ P′.lowered atoms ∷ sv heads ∷ sv kinds ∷ sv sides ∷ sv bounds ∷ sv counts ∷ pair-val entries ∷ []) _ $
+        alloc1 ! (λ l₀. alloc1 ! (λ l₁. alloc1 ! (λ l₂. alloc1 ! (λ l₃. alloc1 ! (λ l₄. alloc1 ! (λ l₅. alloc1 ! (λ l₆. alloc1 ! (λ l₇. alloc1 ! (λ
+        l₈. alloc1 ! (λ l₉. alloc1 ! (λ l₁₀. alloc1 ! (λ l₁₁. alloc1 ! (λ l₁₂. alloc1 ! (λ l₁₃. alloc0 ! $ params1 ! $ pass1 ! (init ! 24 refl
+        (tt, (tt, (record { fits = room-area .0 }, tt)))) $ pass1 ! (init ! 22 refl (LL.lawful P.the-type P′.the-laws 𝓤 H A W .typed atoms _ fits .0))
+        $ pass1 ! (init ! 20 refl (tt, (tt, (record { fits = room-heads .0 }, tt)))) $ pass1 ! (init ! 18 refl
+        (tt, (tt, (record { fits = room-kinds .0 }, tt)))) $ pass1 ! (init ! 16 refl (tt, (tt, (record { fits = room-sides .0 }, tt)))) $ pass1 !
+        (init ! 14 refl (tt, (tt, (record { fits = room-bounds .0 }, tt)))) $ pass1 ! (init ! 12 refl
+        (tt, (tt, (record { fits = room-counts .0 }, tt)))) $ pass1 ! (init ! 10 refl (array-lawful 𝓤 H A W E.the-row (LL.lawful E.the-type
+        E′.the-laws 𝓤 H A W) 2 .typed entries _ ge .0)) $ pass0 ! $ assigns ! (of-opd ! (load ! (from ! (stop !)) (look ! 10 refl))) (from ! (stop !))
+        (init ! 8 refl (array-lawful 𝓤 H A W E.the-row (LL.lawful E.the-type E′.the-laws 𝓤 H A W) 2 .typed entries _ ge .0)) $ assigns ! (addr ! (from
+        ! (fld ! refl (hop ! (look-in ! 24 (sub ! 0 refl (whole !))) (stop !))))) (from ! (stop !)) (init ! 6 refl (tt, tt)) $ assigns ! (agg !
+        (and-then ! (load ! (from ! (stop !)) (look ! 6 refl)) (and-then ! (load ! (from ! (fld ! refl (stop !))) (look-in ! 24 (sub ! 1 refl (whole
+        !)))) (no-more !)))) (from ! (stop !)) (init ! 4 refl (tt, (tt, (record { fits = room-area .0 }, tt)))) $ assigns ! (addr ! (from ! (stop !)))
+        (from ! (stop !)) (init ! 2 refl (tt, tt)) $ assigns ! (agg ! (and-then ! (load ! (from ! (stop !)) (look ! 2 refl)) (and-then ! (lit ! tt)
+        (no-more !)))) (from ! (stop !)) (init ! 0 refl (tt, (tt, (record { fits = lit< tt }, tt)))) $
         -- what the parameters own and the tokens are taken apart; of each list two copies are had
-        move ! (29 ∷ []) $ fsplit ! $ move ! (1 ∷ []) $ fsplit ! $ drop ! $ fsplit ! $ use1 W (‵ (ShrSlice (named 1) κ₁ u64 .own heads (s-heads ∷ [])) ⊛ ‵
-        (ShrSlice (named 1) κ₁ u64 .own heads (s-heads ∷ []))) (shr-slice-copy 𝓤 H A W (named 1) κ₁ u64 .twice heads (s-heads ∷ [])) $ split ! $ move ! (2 ∷
-        []) $ fsplit ! $ use1 W (‵ (ShrSlice (named 2) κ₂ u64 .own kinds (s-kinds ∷ [])) ⊛ ‵ (ShrSlice (named 2) κ₂ u64 .own kinds (s-kinds ∷ [])))
-        (shr-slice-copy 𝓤 H A W (named 2) κ₂ u64 .twice kinds (s-kinds ∷ [])) $ split ! $ move ! (2 ∷ []) $ fsplit ! $ use1 W (‵ (ShrSlice (named 3) κ₃ u64
-        .own sides (s-sides ∷ [])) ⊛ ‵ (ShrSlice (named 3) κ₃ u64 .own sides (s-sides ∷ []))) (shr-slice-copy 𝓤 H A W (named 3) κ₃ u64 .twice sides (s-sides ∷
-        [])) $ split ! $ move ! (2 ∷ []) $ fsplit ! $ use1 W (‵ (ShrSlice (named 4) κ₄ i64 .own bounds (s-bounds ∷ [])) ⊛ ‵ (ShrSlice (named 4) κ₄ i64 .own
-        bounds (s-bounds ∷ []))) (shr-slice-copy 𝓤 H A W (named 4) κ₄ i64 .twice bounds (s-bounds ∷ [])) $ split ! $ move ! (2 ∷ []) $ fsplit ! $ use1 W (‵
-        (ShrSlice (named 5) κ₅ u64 .own counts (s-counts ∷ [])) ⊛ ‵ (ShrSlice (named 5) κ₅ u64 .own counts (s-counts ∷ []))) (shr-slice-copy 𝓤 H A W (named 5)
-        κ₅ u64 .twice counts (s-counts ∷ [])) $ split ! $ move ! (2 ∷ []) $ fsplit ! $ drop ! $ drop ! $ move ! (39 ∷ []) $ split ! $ move ! (1 ∷ []) $ split
-        ! $ move ! (1 ∷ []) $ split ! $ move ! (1 ∷ []) $ split ! $ move ! (1 ∷ []) $ split ! $ move ! (1 ∷ []) $ split ! $ move ! (1 ∷ []) $ drop ! $
+        move ! (29 ∷ []) $ fsplit ! $ move ! (1 ∷ []) $ fsplit ! $ drop ! $ fsplit ! $ use1 W (shr 1 κ₁ u64 heads ⊛ shr 1 κ₁ u64 heads) (two-of 1 κ₁
+        u64 heads) $ split ! $ move ! (2 ∷ []) $ fsplit ! $ use1 W (shr 2 κ₂ u64 kinds ⊛ shr 2 κ₂ u64 kinds) (two-of 2 κ₂ u64 kinds) $ split ! $ move
+        ! (2 ∷ []) $ fsplit ! $ use1 W (shr 3 κ₃ u64 sides ⊛ shr 3 κ₃ u64 sides) (two-of 3 κ₃ u64 sides) $ split ! $ move ! (2 ∷ []) $ fsplit ! $ use1
+        W (shr 4 κ₄ i64 bounds ⊛ shr 4 κ₄ i64 bounds) (two-of 4 κ₄ i64 bounds) $ split ! $ move ! (2 ∷ []) $ fsplit ! $ use1 W (shr 5 κ₅ u64 counts ⊛
+        shr 5 κ₅ u64 counts) (two-of 5 κ₅ u64 counts) $ split ! $ move ! (2 ∷ []) $ fsplit ! $ drop ! $ drop ! $ move ! (39 ∷ []) $ split ! $ move !
+        (1 ∷ []) $ split ! $ move ! (1 ∷ []) $ split ! $ move ! (1 ∷ []) $ split ! $ move ! (1 ∷ []) $ split ! $ move ! (1 ∷ []) $ split ! $ move ! (1
+        ∷ []) $ drop ! $
         -- the records are lent for a lifetime ν of the call
-        lft-new ! tt (λ ν. move ! (26 ∷ []) $ use1 W (‵ (Row entries l₉)) (row-in 𝓤 H A W entries l₉ ge) $ use1 W (later (some (λ (δ : GName). ‵ (ShrSlice
-        (named 6) (ν ∷ []) E.the-row .own (lent-at l₉ δ) (sliceVal (l₉, 0) (length entries) ∷ [])) ⊛ ‵ (flent (ν ∷ []) (Row entries l₉))))) (lends-shr-slice 𝓤
-        H A W E.the-row (named 6) (ν ∷ []) fullShare entries l₉ 0 (room-two entries (two entries ge))) $ await ! tt $ pick ! (λ δ. split ! $ rewrite ! 0 (λ (m
-        : ℕ). ‵ (ShrSlice (named 6) (ν ∷ []) E.the-row .own (lent-at l₉ δ) (sliceVal (l₉, 0) m ∷ []))) (two entries ge) refl $ move ! (9 ∷ 0 ∷ []) $ join ! $
-        move ! (10 ∷ 0 ∷ []) $ join ! $ move ! (11 ∷ 0 ∷ []) $ join ! $ move ! (12 ∷ 0 ∷ []) $ join ! $ move ! (13 ∷ 0 ∷ []) $ join ! $ move ! (14 ∷ 0 ∷ []) $
-        join ! $ move ! (2 ∷ 0 ∷ []) $ join ! $ move ! (2 ∷ 0 ∷ []) $ join ! $ move ! (2 ∷ 0 ∷ []) $ join ! $ move ! (2 ∷ 0 ∷ []) $ join ! $ move ! (2 ∷ 0 ∷
-        []) $ join ! $ move ! (2 ∷ 0 ∷ []) $ join ! $ move ! (2 ∷ 0 ∷ []) $ join ! $ use1 W (raw (Core 𝓤 H A at-mem run .pre (to-core l₉ ν δ))) (goes-core l₉
-        ν δ) $ calls-at ! fm (Core 𝓤 H A at-mem run) known (to-core l₉ ν δ) (and-then ! (load ! (from ! (stop !)) (look ! 11 refl)) (and-then ! (load ! (from
-        ! (stop !)) (look ! 28 refl)) (and-then ! (load ! (from ! (stop !)) (look ! 26 refl)) (and-then ! (load ! (from ! (stop !)) (look ! 24 refl))
-        (and-then ! (load ! (from ! (stop !)) (look ! 22 refl)) (and-then ! (load ! (from ! (stop !)) (look ! 20 refl)) (and-then ! (load ! (from ! (stop !))
-        (look ! 18 refl)) (and-then ! (load ! (from ! (stop !)) (look ! 7 refl)) (no-more !))))))))) (λ w. use1 W (later (some (λ (r : Answer). ((‵ (flft κ₀
-        q₀) ⊛ ‵ (flft κ₁ q₁) ⊛ ‵ (flft κ₂ q₂) ⊛ ‵ (flft κ₃ q₃) ⊛ ‵ (flft κ₄ q₄) ⊛ ‵ (flft κ₅ q₅) ⊛ ‵ (flft (ν ∷ []) fullShare) ⊛ ‵ ftrue) ⊛ ‵ (R.the-row .own
-        r (w ∷ []))) ⊛ raw (ensured 𝓤 H A load-records.ended (load-records.clauses 𝓤 H A at-mem run) (κ₀, (κ₁, (κ₂, (κ₃, (κ₄, (κ₅, (ν ∷ [], tt))))))) (args l₉
-        δ) tt r)))) (id⊢ 𝓤 _) $ await ! tt $ pick ! (λ r. split ! $ move ! (1 ∷ []) $ use1 W (some (λ (zs : List ℕ × (Unit {0} × (Unit {0} × (Unit {0} × (Unit
-        {0} × (Unit {0} × (Unit {0} × (Unit {0} × (Unit {0}))))))))). ‵ (lasts load-records.ended (κ₀, (κ₁, (κ₂, (κ₃, (κ₄, (κ₅, (ν ∷ [], tt))))))) (args l₉ δ)
-        zs) ⊛ raw (fact 𝓤 (Said r (zs .0))))) (id⊢ 𝓤 _) $ pick ! (λ zs. split ! $ move ! (1 ∷ []) $ heard ! (Said r (zs .0)) (λ e. fsplit ! $ fsplit ! $ move
-        ! (1 ∷ []) $ feqL ! (λ l. move ! (1 ∷ []) $ drop ! $ move ! (1 ∷ []) $ split ! $ move ! (1 ∷ []) $ peeks ! R.the-row (Is R.the-row) (shows 𝓤 H A
-        R.the-row) r (w ∷ []) (λ is. land ! (from ! (stop !)) (init ! 34 refl (LL.lawful R.the-type R′.the-laws 𝓤 H A W .typed r _ is .0)) $
+        lft-new ! tt (λ ν. move ! (26 ∷ []) $ use1 W (‵ (Row entries l₉)) (row-in 𝓤 H A W entries l₉ ge) $ use1 W (later (some (λ (δ : GName). ‵
+        (ShrSlice (named 6) (ν ∷ []) E.the-row .own (lent-at l₉ δ) (sliceVal (l₉, 0) (length entries) ∷ [])) ⊛ ‵ (flent (ν ∷ []) (Row entries l₉)))))
+        (lends-shr-slice 𝓤 H A W E.the-row (named 6) (ν ∷ []) fullShare entries l₉ 0 (room-two entries (two entries ge))) $ await ! tt $ pick ! (λ δ.
+        split ! $ rewrite ! 0 (λ (m : ℕ). ‵ (ShrSlice (named 6) (ν ∷ []) E.the-row .own (lent-at l₉ δ) (sliceVal (l₉, 0) m ∷ []))) (two entries ge)
+        refl $ move ! (9 ∷ 0 ∷ []) $ join ! $ move ! (10 ∷ 0 ∷ []) $ join ! $ move ! (11 ∷ 0 ∷ []) $ join ! $ move ! (12 ∷ 0 ∷ []) $ join ! $ move !
+        (13 ∷ 0 ∷ []) $ join ! $ move ! (14 ∷ 0 ∷ []) $ join ! $ move ! (2 ∷ 0 ∷ []) $ join ! $ move ! (2 ∷ 0 ∷ []) $ join ! $ move ! (2 ∷ 0 ∷ []) $
+        join ! $ move ! (2 ∷ 0 ∷ []) $ join ! $ move ! (2 ∷ 0 ∷ []) $ join ! $ move ! (2 ∷ 0 ∷ []) $ join ! $ move ! (2 ∷ 0 ∷ []) $ join ! $ use1 W
+        (raw (Core 𝓤 H A at-mem run .pre (to-core l₉ ν δ))) (goes-core l₉ ν δ) $ calls-at ! fm (Core 𝓤 H A at-mem run) known (to-core l₉ ν δ)
+        (and-then ! (load ! (from ! (stop !)) (look ! 11 refl)) (and-then ! (load ! (from ! (stop !)) (look ! 28 refl)) (and-then ! (load ! (from !
+        (stop !)) (look ! 26 refl)) (and-then ! (load ! (from ! (stop !)) (look ! 24 refl)) (and-then ! (load ! (from ! (stop !)) (look ! 22 refl))
+        (and-then ! (load ! (from ! (stop !)) (look ! 20 refl)) (and-then ! (load ! (from ! (stop !)) (look ! 18 refl)) (and-then ! (load ! (from !
+        (stop !)) (look ! 7 refl)) (no-more !))))))))) (λ w. use1 W (later (some (λ (r : Answer). ((‵ (flft κ₀ q₀) ⊛ ‵ (flft κ₁ q₁) ⊛ ‵ (flft κ₂ q₂) ⊛
+        ‵ (flft κ₃ q₃) ⊛ ‵ (flft κ₄ q₄) ⊛ ‵ (flft κ₅ q₅) ⊛ ‵ (flft (ν ∷ []) fullShare) ⊛ ‵ ftrue) ⊛ ‵ (R.the-row .own r (w ∷ []))) ⊛ raw (ensured 𝓤 H
+        A load-records.ended (load-records.clauses 𝓤 H A at-mem run) (κ₀, (κ₁, (κ₂, (κ₃, (κ₄, (κ₅, (ν ∷ [], tt))))))) (args l₉ δ) tt r)))) (id⊢ 𝓤 _) $
+        await ! tt $ pick ! (λ r. split ! $ move ! (1 ∷ []) $ use1 W (some (λ (zs : List ℕ × (Unit {0} × (Unit {0} × (Unit {0} × (Unit {0} × (Unit {0}
+        × (Unit {0} × (Unit {0} × (Unit {0}))))))))). ‵ (lasts load-records.ended (κ₀, (κ₁, (κ₂, (κ₃, (κ₄, (κ₅, (ν ∷ [], tt))))))) (args l₉ δ) zs) ⊛
+        raw (fact 𝓤 (Said r (zs .0))))) (id⊢ 𝓤 _) $ pick ! (λ zs. split ! $ move ! (1 ∷ []) $ heard ! (Said r (zs .0)) (λ e. fsplit ! $ fsplit ! $
+        move ! (1 ∷ []) $ feqL ! (λ l. move ! (1 ∷ []) $ drop ! $ move ! (1 ∷ []) $ split ! $ move ! (1 ∷ []) $ peeks ! R.the-row (Is R.the-row)
+        (shows 𝓤 H A R.the-row) r (w ∷ []) (λ is. land ! (from ! (stop !)) (init ! 34 refl (LL.lawful R.the-type R′.the-laws 𝓤 H A W .typed r _ is
+        .0)) $
         -- the lifetime is ended, and the records are back
-        move ! (1 ∷ []) $ split ! $ move ! (1 ∷ []) $ split ! $ move ! (1 ∷ []) $ split ! $ move ! (1 ∷ []) $ split ! $ move ! (1 ∷ []) $ split ! $ move ! (1
-        ∷ []) $ split ! $ move ! (1 ∷ []) $ split ! $ move ! (1 ∷ []) $ drop ! $ lft-end ! tt $ move ! (0 ∷ 9 ∷ []) $ lent-back ! tt $ use1 W (‵ (fat
-        fullShare (tyArray E′.mir 2) l₉ 0 (pair-val entries))) (row-out 𝓤 H A W entries l₉ (two entries ge)) $
+        move ! (1 ∷ []) $ split ! $ move ! (1 ∷ []) $ split ! $ move ! (1 ∷ []) $ split ! $ move ! (1 ∷ []) $ split ! $ move ! (1 ∷ []) $ split ! $
+        move ! (1 ∷ []) $ split ! $ move ! (1 ∷ []) $ split ! $ move ! (1 ∷ []) $ drop ! $ lft-end ! tt $ move ! (0 ∷ 9 ∷ []) $ lent-back ! tt $ use1
+        W (‵ (fat fullShare (tyArray E′.mir 2) l₉ 0 (pair-val entries))) (row-out 𝓤 H A W entries l₉ (two entries ge)) $
         -- the exit
-        returns ! (look ! 39 refl) $ forget ! 14 refl $ forget ! 16 refl $ forget ! 18 refl $ forget ! 20 refl $ forget ! 0 refl $ forget ! 23 refl $ forget !
-        25 refl $ forget ! 27 refl $ forget ! 29 refl $ forget ! 31 refl $ forget ! 33 refl $ forget ! 35 refl $ forget ! 37 refl $ forget ! 39 refl $ move !
-        (39 ∷ 40 ∷ []) $ free1 ! $ move ! (37 ∷ 38 ∷ []) $ free1 ! $ move ! (35 ∷ 36 ∷ []) $ free1 ! $ move ! (33 ∷ 34 ∷ []) $ free1 ! $ move ! (31 ∷ 32 ∷ [])
-        $ free1 ! $ move ! (29 ∷ 30 ∷ []) $ free1 ! $ move ! (27 ∷ 28 ∷ []) $ free1 ! $ move ! (25 ∷ 26 ∷ []) $ free1 ! $ move ! (23 ∷ 24 ∷ []) $ free1 ! $
-        move ! (0 ∷ 22 ∷ []) $ free1 ! $ move ! (19 ∷ 20 ∷ []) $ free1 ! $ move ! (17 ∷ 18 ∷ []) $ free1 ! $ move ! (15 ∷ 16 ∷ []) $ free1 ! $ move ! (13 ∷ 14
-        ∷ []) $ free1 ! $ free0 ! $ keep ! (5 ∷ 4 ∷ 3 ∷ 2 ∷ 1 ∷ 0 ∷ 7 ∷ 12 ∷ 11 ∷ 10 ∷ 9 ∷ 8 ∷ 6 ∷ []) $ by ! (exits w r (zs .0) e l)))))))))))))))))))))))
+        returns ! (look ! 39 refl) $ forget ! 14 refl $ forget ! 16 refl $ forget ! 18 refl $ forget ! 20 refl $ forget ! 0 refl $ forget ! 23 refl $
+        forget ! 25 refl $ forget ! 27 refl $ forget ! 29 refl $ forget ! 31 refl $ forget ! 33 refl $ forget ! 35 refl $ forget ! 37 refl $ forget !
+        39 refl $ move ! (39 ∷ 40 ∷ []) $ free1 ! $ move ! (37 ∷ 38 ∷ []) $ free1 ! $ move ! (35 ∷ 36 ∷ []) $ free1 ! $ move ! (33 ∷ 34 ∷ []) $ free1
+        ! $ move ! (31 ∷ 32 ∷ []) $ free1 ! $ move ! (29 ∷ 30 ∷ []) $ free1 ! $ move ! (27 ∷ 28 ∷ []) $ free1 ! $ move ! (25 ∷ 26 ∷ []) $ free1 ! $
+        move ! (23 ∷ 24 ∷ []) $ free1 ! $ move ! (0 ∷ 22 ∷ []) $ free1 ! $ move ! (19 ∷ 20 ∷ []) $ free1 ! $ move ! (17 ∷ 18 ∷ []) $ free1 ! $ move !
+        (15 ∷ 16 ∷ []) $ free1 ! $ move ! (13 ∷ 14 ∷ []) $ free1 ! $ free0 ! $ keep ! (5 ∷ 4 ∷ 3 ∷ 2 ∷ 1 ∷ 0 ∷ 7 ∷ 12 ∷ 11 ∷ 10 ∷ 9 ∷ 8 ∷ 6 ∷ []) $ by
+        ! (exits w r (zs .0) e l)))))))))))))))))))))))
 
 module _ {M : Type 1} (𝓤 : URA M) (H : Heap 𝓤) (A : Atoms 𝓤) (W : Given 𝓤 H A) (at-mem : Memory → SProp 𝓤) (run : Routine → Fun 𝓤) where
   walks : (C : Calls 𝓤 H) (Λ : Loops 𝓤 H) → FmC 𝓤 H (W .laws) C → Triple 𝓤 (C #lent·load-records) (Core 𝓤 H A at-mem run)

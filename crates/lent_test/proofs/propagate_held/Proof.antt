@@ -100,9 +100,7 @@ module _ {M : Type 1} (𝓤 : URA M) (H : Heap 𝓤) (A : Atoms 𝓤) (W : Given
   -- what the call takes
   abbrev Taken : ℕ → ℕ → GName → Item 𝓤
   Taken b ν δ =
-      ‵ (flft κ q)
-      ⊛ ‵ (flft (ν ∷ []) fullShare)
-      ⊛ ‵ (MutSlice (named 0) κ u64 .own x (s ∷ []))
+      ‵ (flft κ q) ⊛ ‵ (flft (ν ∷ []) fullShare) ⊛ ‵ (MutSlice (named 0) κ u64 .own x (s ∷ []))
       ⊛ ‵ (MutRef (named 1) (ν ∷ []) T.the-row .own (c-at b δ) (vptr b 0 ∷ []))
 
   goes-core : (b ν : ℕ) (δ : GName) → ent 𝓤 (⋆ 𝓤 H A (Taken b ν δ ∷ [])) (Core 𝓤 H A at-mem run .pre (to-core b ν δ))
