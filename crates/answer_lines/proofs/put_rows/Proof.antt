@@ -15,9 +15,6 @@ Inv-loop page₀ at list rows place₀ row₀ page place row = (row ≤ rows) ×
 abbrev μ-loop : tie.MeasureT-loop
 μ-loop page₀ at list rows place₀ row₀ page place row = rows - row
 
-loop-holds : tie.Need-loop-holds Inv-loop μ-loop
-loop-holds c = let a = c .before .args in (omega arith, no-rows (a .list .now) (a .page .now) (a .at))
-
 loop-again : tie.Need-loop-again Inv-loop μ-loop
 loop-again c = let l = c .before .before .before .before .before .before .before .before .loop in let a = c .before .before .before .before .before .before .before .before .before .before .args in
     (omega arith, row-more (a .list .now) (l .row) (search needs) (search needs) (search needs) (l .inv .1) (c .before .before .put-row .ensures))
@@ -29,6 +26,7 @@ pub put-rows-spec : {M : Type 1} → statement M
 put-rows-spec =
     tie.close
     (tie.spec
-    Inv-loop μ-loop loop-holds (λ c. search needs) (λ c. search needs) (λ c. search needs) (λ c. search needs) (λ c. search needs) (λ c. search needs)
-    (λ c. search needs) (λ c. search needs) (λ c. search needs) (λ c. search needs) (λ c. search needs) (λ c κs. search needs) (λ c. search needs)
-    (λ c. search needs) loop-again (λ c. c .before .loop .inv .1 .size) returns)
+    Inv-loop μ-loop (λ c. let a = c .before .args in (omega arith, no-rows (a .list .now) (a .page .now) (a .at))) (λ c. search needs)
+    (λ c. search needs) (λ c. search needs) (λ c. search needs) (λ c. search needs) (λ c. search needs) (λ c. search needs) (λ c. search needs)
+    (λ c. search needs) (λ c. search needs) (λ c. search needs) (λ c κs. search needs) (λ c. search needs) (λ c. search needs) loop-again
+    (λ c. c .before .loop .inv .1 .size) returns)
