@@ -14,7 +14,8 @@ use Rattle.columns.specs.Refusals.{some, both-signs, all-refusals, first-refusa
 use Rattle.opb_grammar.specs.Grammar.{more, long-fault, v-fault, c-fault, variable-fault, expect, begin, between, relation-at-least, relation-equal, finish, transition, ends}
 use Rattle.opb_text.specs.Text.{go, reading, rows-from, all-entries}
 use Rattle.numbers.specs.Text.{bytes, decimal-within}
-use Rattle.listing.specs.Output.{row-lines, bound-lines, heads-given, output}
+use Rattle.listing_lines.specs.Lines.{row-lines, bound-lines}
+use Rattle.listing.specs.Output.{heads-given, output}
 
 pub record Printing : Type 0 where
   pub input : List ℕ

@@ -31,7 +31,8 @@ use Rattle.columns.specs.Refusals.{load-answer}
 use Rattle.columns.specs.declared.Answer as load
 use Rattle.opb_text.specs.Text.{Constraint, Reading, taken, refused, reading, rows-from, columns-of}
 use Rattle.opb_text.proofs.Limits.{limits}
-use Rattle.listing.specs.Output.{row-line, bound-line, row-lines, bound-lines, state-lines, listing, area-words, judged-sentences, loaded, answered, printed, output, page-bytes, Prints}
+use Rattle.listing_lines.specs.Lines.{row-line, bound-line, row-lines, bound-lines, state-lines}
+use Rattle.listing.specs.Output.{listing, area-words, judged-sentences, loaded, answered, printed, output, page-bytes, Prints}
 use Rattle.pages.proofs.Laws.{held-whole}
 use Rattle.answer_lines.specs.Lines.{stop-line}
 use Rattle.listing.proofs.Lengths.{refused-length, still-length, conflict-length, row-length, bound-length}

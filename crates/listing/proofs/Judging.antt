@@ -23,7 +23,8 @@ use Rattle.columns.specs.declared.Answer as load
 use Rattle.columns.specs.Refusals.{load-answer}
 use Rattle.opb_text.specs.Text.{Constraint, taken, reading, rows-from, columns-of}
 use Rattle.answer_lines.specs.Lines.{stop-line}
-use Rattle.listing.specs.Output.{bound-line, row-lines, bound-lines, state-lines, listing, area-words, judged-sentences, heads-given, answered, printed, output}
+use Rattle.listing_lines.specs.Lines.{bound-line, row-lines, bound-lines, state-lines}
+use Rattle.listing.specs.Output.{listing, area-words, judged-sentences, heads-given, answered, printed, output}
 use Rattle.listing.proofs.Texts.{Taken, load-takes}
 use Rattle.listing.proofs.States.{standing, Standing, Levelled, step}
 

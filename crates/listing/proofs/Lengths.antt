@@ -8,7 +8,7 @@ use Rattle.book.specs.Rows.{Row}
 use Rattle.book.specs.Table.{Paper}
 use Rattle.pages.proofs.Lengths.{decimal-short, decimal-length, signed-length}
 use Rattle.answer_lines.specs.Lines.{refused-line, still-line, conflict-line}
-use Rattle.listing.specs.Output.{row-line, bound-line}
+use Rattle.listing_lines.specs.Lines.{row-line, bound-line}
 
 pub refused-length : (c n : ℕ) → length (refused-line c n) ≤ 50
 refused-length c n = simp length-append (omega (arith, decimal-short c, decimal-short n))

@@ -1,5 +1,3 @@
-pub mod Loops
-pub mod Parts
 pub mod Moves
 pub mod Reading
 pub mod Loading

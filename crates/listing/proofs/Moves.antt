@@ -26,8 +26,9 @@ use Rattle.answer_lines.specs.Lines.{propagated-line, stop-line}
 use Rattle.answer_lines.proofs.Told.{propagated-told}
 use Rattle.pages.specs.Page.{Writes}
 use Rattle.pages.proofs.Laws.{then}
-use Rattle.listing.specs.Output.{state-lines, listing, heads-given}
-use Rattle.listing.specs.Steps.{WholeArea, start, HeadsGiven}
+use Rattle.listing.specs.Output.{listing, heads-given}
+use Rattle.listing_lines.specs.Lines.{state-lines, WholeArea}
+use Rattle.listing.specs.Steps.{start, HeadsGiven}
 
 -- the area after a call, as a state of the table
 pub record Next (w w′ : List ℕ) (c′ : Counters) (x : Call) : Type 0 where

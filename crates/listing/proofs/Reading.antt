@@ -5,7 +5,6 @@ use mathlib.Core.List.{List, [], map}
 use Prim.Native.Nat.{ℕ, suc, _+_, _≤_}
 use lib.ListN.{length, take, drop, length-map}
 use lib.Seq.{take-at}
-use lib.IntN.{ℤ}
 use borrow.Author.Tests.{le-ltb}
 use Rattle.types.specs.Limits.{base}
 use Rattle.meaning.specs.Meaning.{Entry}
@@ -15,6 +14,7 @@ use Rattle.opb_text.specs.declared.Read.{Read}
 use Rattle.opb_text.specs.Text.{Constraint, Reading, taken, refused, reading, rows-from, all-entries, columns-of, nothing-read, stored, read-of, over, over-all, result-of, sentence-room, entry-room, Reads}
 use Rattle.opb_text.proofs.Limits.{limits, numbered}
 use Rattle.opb_text.proofs.Columns.{same-rows}
+use Rattle.opb_text.proofs.Fronts.{same-columns}
 use Rattle.pages.specs.Page.{Holds, Writes}
 use Rattle.pages.proofs.Laws.{starts}
 use Rattle.answer_lines.specs.Lines.{refused-line}
@@ -27,11 +27,6 @@ fronts n e c =
 module _ {A B : Type 0} (f : B → A) (xs : List B) (old : List A) where
   front : take (length xs) (over (map f xs) old) ≡ map f xs
   front = take-at (map f xs) (drop (length (map f xs)) old) (length xs) (length-map xs f)
-
-same-columns :
-    {h h′ k k′ s s′ : List ℕ} {b b′ : List ℤ} {n n′ : List ℕ} {w w′ l l′ : List ℤ} → h ≡ h′ → k ≡ k′ → s ≡ s′ → b ≡ b′ → n ≡ n′ → w ≡ w′ → l ≡ l′ →
-    columns h k s b n w l ≡ columns h′ k′ s′ b′ n′ w′ l′
-same-columns a b c d e f g = cc
 
 fronts-are : (xs : List Written) (old : Columns) → fronts (length xs) (length (all-entries xs)) (over-all (columns-of xs) old) ≡ columns-of xs
 fronts-are xs old =

@@ -13,7 +13,7 @@ use Rattle.reports.proofs.Rows.{flat-length}
 use Rattle.columns.specs.Indexed.{nth}
 use Rattle.answer_lines.specs.Lines as answers
 use Rattle.answer_lines.specs.Lines.{trail-lines}
-use Rattle.listing.specs.Output.{row-line, row-lines}
+use Rattle.listing_lines.specs.Lines.{row-line, row-lines}
 
 behind : (xs ys : List ℤ) (k i : ℕ) → length xs ≡ k → nth (xs ++ ys) (k + i) ≡ nth ys i
 behind xs ys k i e = ap (λ (m : ℕ). nth (xs ++ ys) (m + i)) (sym e) ∙ getD-append-add xs ys i (pos 0)

@@ -2,50 +2,27 @@
 -- load's answer `load-answer`, and every other answer is the table's (`reply`), for sentences judged by the computed tests.
 use mathlib.Core.Bool.{false, cond}
 use mathlib.Core.Path.{_≡_}
-use mathlib.Core.List.{List, [], _∷_, _++_}
+use mathlib.Core.List.{List, [], _++_}
 use Prim.Native.Nat.{ℕ, zero, suc, _+_, _*_}
 use lib.ListN.{length}
 use lib.IntN.{pos}
 use lib.Dec.{eqb}
 use Rattle.types.specs.Limits.{base}
-use Rattle.numbers.specs.Text.{bytes, decimal, signed-decimal}
-use Rattle.book.specs.Rows.{Row}
-use Rattle.book.specs.Table.{give, propagate, bounds, step, report, Judged, Paper, paper, State, reply, called}
+use Rattle.book.specs.Table.{give, propagate, step, Judged, paper, State, reply, called}
 use Rattle.book.specs.Book.{judged-all, rules-of}
 use Rattle.columns.specs.Columns.{Written, sentences-in}
 use Rattle.columns.specs.declared.Answer as load
 use Rattle.columns.specs.Refusals.{load-answer}
+use Rattle.listing_lines.specs.Lines.{state-lines}
 use Rattle.answer_lines.specs.Lines.{refused-line, stop-line}
 use Rattle.opb_text.specs.Text.{Reading, reading, rows-from, columns-of}
 use Rattle.opb_text.specs.Text as text
 use Rattle.pages.specs.Page.{Holds}
 
 -- ---- lines: `refused-line` for 'refusals, printed `refused N k`' and 'load's refusals print with their sentence'; `stop-line` for 'Line 1:
--- `still` and the literals derived, or `conflict`, that count and the sentence'; and
-
--- '`t`: literal, level, reason (0 given).'
-abbrev pub row-line : Row → List ℕ
-row-line r = bytes "t " ++ signed-decimal (r .literal) ++ bytes " " ++ decimal (r .level) ++ bytes " " ++ decimal (r .reason) ++ bytes "\n"
-
--- '`b`: sentence, least, greatest. Infinite values can't come from OPB.'
-abbrev pub bound-line : ℕ → Paper → List ℕ
-bound-line sentence p =
-    bytes "b " ++ decimal sentence ++ bytes " " ++ signed-decimal (p .least) ++ bytes " " ++ signed-decimal (p .greatest) ++ bytes "\n"
+-- `still` and the literals derived, or `conflict`, that count and the sentence'; `row-line` and `bound-line` for the others
 
 -- ---- the listing
-
--- the trail, oldest first; a state has its last row first
-unfoldable pub row-lines : List Row → List ℕ
-row-lines [] = []
-row-lines (r ∷ rs) = row-lines rs ++ row-line r
-
--- the bounds of sentences 1 to k
-unfoldable pub bound-lines : State → ℕ → List ℕ
-bound-lines q zero = []
-bound-lines q (suc k) = bound-lines q k ++ bound-line (suc k) (paper (reply q (report (bounds (suc k)) 0) .answer))
-
-abbrev pub state-lines : State → List ℕ
-state-lines q = row-lines (q .rows) ++ bound-lines q (length (q .sentences))
 
 -- propagate's answer, and 'the other lines follow either'
 abbrev pub listing : State → List ℕ

@@ -7,15 +7,12 @@ use Rattle.types.specs.Limits.{base, widest}
 use Rattle.types.specs.declared.Limits.{Limits}
 use Rattle.types.specs.declared.Counters.{Counters}
 use Rattle.book.specs.Table.{State}
-use Rattle.area.specs.Whole.{Whole}
-use Rattle.calls.specs.Calls.{area-state, counted}
+use Rattle.calls.specs.Calls.{area-state}
 use Rattle.columns.specs.Columns.{Columns, all-written}
 use Rattle.columns.specs.Refusals.{load-answer}
 use Rattle.pages.specs.Page.{Writes}
+use Rattle.listing_lines.specs.Lines.{WholeArea}
 use Rattle.listing.specs.Output.{heads-given, area-words, judged-sentences, answered}
-
-abbrev pub WholeArea : List ℕ → Counters → Type 0
-WholeArea w c = Whole base w (counted c)
 
 -- an area whole at its counters, as a state of the table
 pub record Stands (w : List ℕ) (c : Counters) (q : State) : Type 0 where

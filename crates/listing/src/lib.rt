@@ -1,22 +1,18 @@
 // The OPB program of document 01 on a lent page: a text is read and loaded, its heads are given in order at level 0, propagate is called,
 // and the answer, the trail and the bounds of each sentence are put on the page. Load leaves the area whole, and no call after it checks
 // the area again.
-use calls::Bounds;
 use types::Atom;
 use types::Counters;
 use types::Level;
 use types::Limits;
-use types::Sentence;
-ghost use Prim.Native.Nat.{_+_, _*_, _≤_};
-ghost use lib.ListN.{length};
-ghost use Rattle.types.specs.Limits.{base, widest};
-ghost use Rattle.book.specs.Rows.{row};
-ghost use Rattle.area.specs.Layout.{rows-from};
-ghost use Rattle.calls.specs.Calls.{area-state, bounds-paper};
+ghost use Prim.Native.Nat.{_+_, _≤_};
+ghost use Rattle.types.specs.Limits.{base};
+ghost use Rattle.calls.specs.Calls.{area-state};
 ghost use Rattle.columns.specs.Columns.{columns};
 ghost use Rattle.pages.specs.Page.{Writes};
-ghost use Rattle.listing.specs.Output.{row-line, bound-line, row-lines, bound-lines, state-lines, listing, Prints};
-ghost use Rattle.listing.specs.Steps.{WholeArea, HeadsAsked, HeadsGiven, Answers};
+ghost use Rattle.listing_lines.specs.Lines.{WholeArea};
+ghost use Rattle.listing.specs.Output.{listing, Prints};
+ghost use Rattle.listing.specs.Steps.{HeadsAsked, HeadsGiven, Answers};
 
 // The columns and the area that every text within the limits has room in.
 const SENTENCES: usize = Limits::SENTENCES as usize;
@@ -24,70 +20,6 @@ const SENTENCES: usize = Limits::SENTENCES as usize;
 const ENTRIES: usize = Limits::ENTRIES as usize;
 
 const WORDS: usize = 4 * Limits::ATOMS as usize + 8 * SENTENCES + 2 * ENTRIES;
-
-// ---- lines
-
-fn put_row(page: &mut [u8], at: usize, literal: i64, level: u64, reason: u64) -> usize
-    ensures { λ r. ⌜ Writes (now (page .entry)) at (now (page .exit)) r (row-line (row literal level reason)) ⌝ }
-{
-    let behind = pages::put_named(page, at, b"t ", literal);
-    pages::put_pair(page, behind, b" ", level, reason)
-}
-
-fn put_bound(page: &mut [u8], at: usize, sentence: u64, bounds: Bounds) -> usize
-    ensures { λ r. ⌜ Writes (now (page .entry)) at (now (page .exit)) r (bound-line sentence (bounds-paper bounds)) ⌝ }
-{
-    let word = pages::put_bytes(page, at, b"b ");
-    let number = pages::put_number(page, word, sentence);
-    let least = pages::put_named(page, number, b" ", bounds.least);
-    let greatest = pages::put_named(page, least, b" ", bounds.greatest);
-    pages::put_bytes(page, greatest, b"\n")
-}
-
-// ---- the listing
-
-// The trail's first rows, from the words of the area.
-fn put_rows(page: &mut [u8], at: usize, area: &[u64], n: usize, rows: usize) -> usize
-    requires { ⌜ (n ≤ widest .atoms) × (rows ≤ n) × (4 * n ≤ length (now area)) ⌝ }
-    ensures { λ r. ⌜ Writes (now (page .entry)) at (now (page .exit)) r (row-lines (rows-from (now (area .entry)) n rows)) ⌝ }
-{
-    let mut place = at;
-    let mut i: usize = 0;
-    while i < rows {
-        let literal = literals::literal_of(area[2 * n + i]);
-        let mark = area[3 * n + i];
-        place = put_row(page, place, literal, mark % 65536, mark / 65536 % 65536);
-        i += 1;
-    }
-    place
-}
-
-// The bounds of the first sentences.
-fn put_bounds(page: &mut [u8], at: usize, area: &[u64], counters: Counters, sentences: u64) -> usize
-    requires { ⌜ WholeArea (now area) counters ⌝ }
-    ensures { λ r. ⌜ Writes (now (page .entry)) at (now (page .exit)) r (bound-lines (area-state base (now (area .entry))) sentences) ⌝ }
-{
-    let mut place = at;
-    let mut k: u64 = 0;
-    while k < sentences {
-        k += 1;
-        let b = reports::stored_bounds(area, Limits::base(), counters, Sentence(k));
-        place = put_bound(page, place, k, b);
-    }
-    place
-}
-
-// The trail and the bounds.
-fn put_state(page: &mut [u8], at: usize, area: &[u64], counters: Counters) -> usize
-    requires { ⌜ WholeArea (now area) counters ⌝ }
-    ensures { λ r. ⌜ Writes (now (page .entry)) at (now (page .exit)) r (state-lines (area-state base (now (area .entry)))) ⌝ }
-{
-    let n = (area[0] % 65536) as usize;
-    let rows = (area[0] / 4294967296 % 65536) as usize;
-    let sentences = area[0] / 65536 % 65536;
-    let behind = put_rows(page, at, area, n, rows);
-    put_bounds(page, behind, area, counters, sentences)
-}
 
 // Propagate on a whole area, and the listing.
 fn put_listing(page: &mut [u8], at: usize, area: &mut [u64], counters: Counters) -> usize
@@ -97,7 +29,7 @@ fn put_listing(page: &mut [u8], at: usize, area: &mut [u64], counters: Counters)
     let answer = propagate::propagate_whole(area, counters);
     let after = propagate::counters_of(answer);
     let behind = answer_lines::put_propagated(page, at, answer);
-    put_state(page, behind, area, after)
+    listing_lines::put_state(page, behind, area, after)
 }
 
 // ---- the run

@@ -21,12 +21,6 @@ abbrev μ-loop : tie.MeasureT-loop
 loop-holds : tie.Need-loop-holds Inv-loop μ-loop
 loop-holds c = (omega arith, heads-none (c .before .args .area .now) (c .before .args .variables) (c .before .pre .whole))
 
-add-give-whole : tie.Need-add-give-whole Inv-loop μ-loop
-add-give-whole c = let s = c .before .before .before .before in omega (arith, s .pre .few)
-
-give-whole-requires : tie.Need-give-whole-requires Inv-loop μ-loop
-give-whole-requires c κs = (base, record { fitting = base-fits; whole = c .before .before .loop .inv .1 .stands .whole })
-
 loop-again : tie.Need-loop-again Inv-loop μ-loop
 loop-again c = let l = c .before .before .before .before .before .before .loop in let s = c .before .before .before .before .before .before .before .before in let head = s .args .variables + (l .k + 1) in let g = l .inv .1 in (
   omega arith,
@@ -34,12 +28,10 @@ loop-again c = let l = c .before .before .before .before .before .before .loop i
       (c .before .before .before .give-whole .ensures base (record { fitting = base-fits; whole = g .stands .whole })),
 )
 
-returns : tie.Need-returns Inv-loop μ-loop
-returns c = let i = c .before .loop .inv in heads-all (omega (arith, i .0)) (i .1)
-
 pub give-heads-spec : {M : Type 1} → statement M
 give-heads-spec =
     tie.close
     (tie.spec
-    Inv-loop μ-loop loop-holds (λ c. omega arith) add-give-whole (λ c. search needs) give-whole-requires (λ c. omega arith) loop-again
-    (λ c. c .before .loop .inv .1 .size) returns)
+    Inv-loop μ-loop loop-holds (λ c. omega arith) (λ c. let s = c .before .before .before .before in omega (arith, s .pre .few)) (λ c. search needs)
+    (λ c κs. (base, record { fitting = base-fits; whole = c .before .before .loop .inv .1 .stands .whole })) (λ c. omega arith) loop-again
+    (λ c. c .before .loop .inv .1 .size) (λ c. let i = c .before .loop .inv in heads-all (omega (arith, i .0)) (i .1)))

@@ -6,9 +6,6 @@ use borrow.Author.Needs.{needs}
 use Rattle.listing.proofs.put_listing.Statement.{statement}
 use Rattle.listing.proofs.put_listing.Tie as tie
 
-propagate-whole-requires : tie.Need-propagate-whole-requires
-propagate-whole-requires c κs = (base, record { fitting = base-fits; whole = c .before .before .before .pre })
-
 put-state-requires : tie.Need-put-state-requires
 put-state-requires c κs = still-whole (c .before .before .before .before .before .before .before .before .before .propagate-whole .result) (c .before .before .before .before .before .before .before .before .before .before .before .before .before .pre) (c .before .before .before .before .before .before .before .before .before .propagate-whole .ensures) (c .before .before .before .before .before .before .counters-of .result) (c .before .before .before .before .before .before .counters-of .ensures)
 
@@ -19,4 +16,5 @@ pub put-listing-spec : {M : Type 1} → statement M
 put-listing-spec =
     tie.close
     (tie.spec
-    propagate-whole-requires (λ c κs. search needs) (λ c κs. search needs) put-state-requires (λ c. search needs) (λ c. search needs) returns)
+    (λ c κs. (base, record { fitting = base-fits; whole = c .before .before .before .pre })) (λ c κs. search needs) (λ c κs. search needs)
+    put-state-requires (λ c. search needs) (λ c. search needs) returns)

@@ -3,8 +3,8 @@ use Rattle.numbers.specs.Text.{bytes}
 use Rattle.pages.proofs.Laws.{then-pair}
 use Rattle.pages.proofs.Numbers.{named-put}
 use borrow.Author.Needs.{needs}
-use Rattle.listing.proofs.put_row.Statement.{statement}
-use Rattle.listing.proofs.put_row.Tie as tie
+use Rattle.listing_lines.proofs.put_row.Statement.{statement}
+use Rattle.listing_lines.proofs.put_row.Tie as tie
 
 returns : tie.Need-returns
 returns c = let s = c .before .before .before .before .before .before .before .before .before .before .before in

@@ -3,8 +3,8 @@ use Rattle.numbers.specs.Text.{bytes}
 use Rattle.pages.proofs.Laws.{then, then-named}
 use Rattle.pages.proofs.Numbers.{named-put}
 use borrow.Author.Needs.{needs}
-use Rattle.listing.proofs.put_bound.Statement.{statement}
-use Rattle.listing.proofs.put_bound.Tie as tie
+use Rattle.listing_lines.proofs.put_bound.Statement.{statement}
+use Rattle.listing_lines.proofs.put_bound.Tie as tie
 
 returns : tie.Need-returns
 returns c = let b = c .before .before .before .before .before .before .before .before .before .before .before .before .before .before .before .before .before .before .before .before .before .before .before .before .before .before .before .args .bounds in

@@ -9,11 +9,11 @@ use Rattle.area.specs.Whole.{Whole}
 use Rattle.calls.specs.Calls.{area-state, counted}
 use Rattle.pages.specs.Page.{Writes}
 use Rattle.pages.proofs.Laws.{counted-up}
-use Rattle.listing.specs.Output.{bound-lines}
-use Rattle.listing.proofs.Loops.{no-bounds, bound-more}
+use Rattle.listing_lines.specs.Lines.{bound-lines}
+use Rattle.listing_lines.proofs.Loops.{no-bounds, bound-more}
 use Rattle.load.proofs.Base.{base-fits}
-use Rattle.listing.proofs.put_bounds.Statement.{statement}
-use Rattle.listing.proofs.put_bounds.Tie as tie
+use Rattle.listing_lines.proofs.put_bounds.Statement.{statement}
+use Rattle.listing_lines.proofs.put_bounds.Tie as tie
 
 abbrev Inv-loop : tie.InvT-loop
 Inv-loop page₀ at area counters sentences place₀ k₀ page place k = (k ≤ sentences) × Writes page₀ at page place (bound-lines (area-state base area) k)

@@ -1,7 +1,7 @@
 -- One row or one bound more, behind the first i.
 use mathlib.Core.Path.{_≡_, sym, ap, ap₂, subst, _∙_}
 use mathlib.Core.List.{List, _++_}
-use Prim.Native.Nat.{ℕ, suc, _+_, _/_, _%_}
+use Prim.Native.Nat.{ℕ, suc, _+_}
 use native.Mathlib.Numerals.{add-one}
 use lib.IntN.{ℤ}
 use mir.Syntax.{w64}
@@ -10,14 +10,14 @@ use mir.ValLaws.{toZ-ofZ}
 use Rattle.types.specs.Limits.{base}
 use Rattle.types.specs.declared.Limits.{Limits}
 use Rattle.numbers.specs.Words.{literal-of}
-use Rattle.book.specs.Rows.{row}
+use Rattle.book.specs.Rows.{Row, row}
 use Rattle.book.specs.Table.{State, Paper, bounds, report, paper, reply}
-use Rattle.area.specs.Layout.{literal-at, mark-at, rows-from}
+use Rattle.area.specs.Layout.{literal-at, row-at, rows-from}
 use Rattle.calls.specs.Calls.{area-state, bounds-paper}
 use Rattle.calls.specs.declared.Bounds.{Bounds}
 use Rattle.pages.specs.Page.{Writes}
 use Rattle.pages.proofs.Laws.{nothing, then}
-use Rattle.listing.specs.Output.{row-line, bound-line, row-lines, bound-lines}
+use Rattle.listing_lines.specs.Lines.{row-line, bound-line, row-lines, bound-lines}
 
 pub no-rows : (w : List ℕ) (n : ℕ) (page : List ℕ) (at : ℕ) → Writes page at page at (row-lines (rows-from w n 0))
 unfolding row-lines rows-from
@@ -27,15 +27,18 @@ pub no-bounds : (q : State) (page : List ℕ) (at : ℕ) → Writes page at page
 unfolding bound-lines
 no-bounds q page at = nothing page at
 
+same-row : {l l′ : ℤ} {v v′ s s′ : ℕ} → l ≡ l′ → v ≡ v′ → s ≡ s′ → row l v s ≡ row l′ v′ s′
+same-row a b c = cc
+
 module _ {page₀ page page′ : List ℕ} {at place r : ℕ} where
   pub row-more :
-      (w : List ℕ) (n i : ℕ) (z : ℤ) → SFits w64 z → z ≡ literal-of (literal-at w n i) → Writes page₀ at page place (row-lines (rows-from w n i)) →
-      Writes page place page′ r (row-line (row (toZ w64 (ofZ w64 z)) (mark-at w n i % 65536) (mark-at w n i / 65536 % 65536))) →
+      (w : List ℕ) (n i : ℕ) {z : ℤ} {x v s : ℕ} → SFits w64 z → z ≡ literal-of x → x ≡ literal-at w n i → v ≡ row-at w n i .level → s ≡ row-at w n i .reason →
+      Writes page₀ at page place (row-lines (rows-from w n i)) → Writes page place page′ r (row-line (row (toZ w64 (ofZ w64 z)) v s)) →
       Writes page₀ at page′ r (row-lines (rows-from w n (i + 1)))
   unfolding row-lines rows-from
-  row-more w n i z f e p q =
+  row-more w n i {z} f e x l m p q =
       subst (Writes page₀ at page′ r)
-      (ap (λ (l : ℤ). row-lines (rows-from w n i) ++ row-line (row l (mark-at w n i % 65536) (mark-at w n i / 65536 % 65536))) (toZ-ofZ w64 z f ∙ e)
+      (ap (λ (y : Row). row-lines (rows-from w n i) ++ row-line y) (same-row (toZ-ofZ w64 z f ∙ e ∙ ap literal-of x) l m)
       ∙ ap (λ (k : ℕ). row-lines (rows-from w n k)) (sym (add-one i)))
       (then p q)
 
