@@ -23,17 +23,21 @@ cause-at-requires c κs = (c .before .before .before .before .pre, omega (arith,
 loop-again : tie.Need-loop-again Inv-loop μ-loop
 loop-again c = let s = c .before .before .before .before .before .before in
     let told = c .before .cause-at .ensures in
-    let more : c .before .before .before .loop .place ≤ merged-at (s .args .area .now) (s .args .base) = omega (arith, c .before .before .before .before .merged-at .ensures, c .before .before .loop-test .taken) in (
+    let more : c .before .before .before .loop .place ≤ merged-at (s .args .area .now) (s .args .base) = omega
+    (arith, c .before .before .before .before .merged-at .ensures, c .before .before .loop-test .taken) in (
       omega arith,
       ⊎-elim (λ x. omega arith) (λ x. omega arith) (c .if1 .came),
       ⊎-elim
-          (λ x. rw (x .1) (counted-more (s .pre) (c .before .before .before .loop .place) more told (c .before .before .before .loop .found) (x .0 .taken) (c .before .before .before .loop .inv .2)))
-          (λ x. rw (x .1) (counted-same (s .pre) (c .before .before .before .loop .place) more told (c .before .before .before .loop .found) (x .0 .left) (c .before .before .before .loop .inv .2)))
+          (λ x. rw (x .1) (counted-more (s .pre) (c .before .before .before .loop .place) more told (c .before .before .before .loop .found) (x .0 .taken)
+          (c .before .before .before .loop .inv .2)))
+          (λ x. rw (x .1) (counted-same (s .pre) (c .before .before .before .loop .place) more told (c .before .before .before .loop .found) (x .0 .left)
+          (c .before .before .before .loop .inv .2)))
           (c .if1 .came),
     )
 
 returns : tie.Need-returns Inv-loop μ-loop
-returns c = counted-ends (c .before .before .before .before .pre) (c .before .loop .place) (c .before .loop .found) (omega (arith, c .before .before .merged-at .ensures, c .loop-test .left)) (c .before .loop .inv .2)
+returns c = counted-ends (c .before .before .before .before .pre) (c .before .loop .place) (c .before .loop .found)
+    (omega (arith, c .before .before .merged-at .ensures, c .loop-test .left)) (c .before .loop .inv .2)
 
 pub count-causes-spec : {M : Type 1} → statement M
 count-causes-spec =

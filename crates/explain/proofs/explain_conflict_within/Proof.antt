@@ -10,7 +10,8 @@ stored-conflict-requires : tie.Need-stored-conflict-requires
 stored-conflict-requires c κs = (c .before .before .before .before .before .pre, granted (c .before .before .is-whole .ensures) (c .before .if1 .left))
 
 returns-2 : tie.Need-returns-2
-returns-2 c = lists-whole _ _ _ _ _ _ _ (granted (c .before .before .before .before .is-whole .ensures) (c .before .before .before .if1 .left)) (c .before .stored-conflict .ensures)
+returns-2 c = lists-whole _ _ _ _ _ _ _ (granted (c .before .before .before .before .is-whole .ensures) (c .before .before .before .if1 .left))
+    (c .before .stored-conflict .ensures)
 
 pub explain-conflict-within-spec : {M : Type 1} → statement M
 explain-conflict-within-spec =

@@ -12,8 +12,9 @@ stored-explanation-requires : tie.Need-stored-explanation-requires
 stored-explanation-requires c κs = (c .before .before .before .before .before .pre, granted (c .before .before .is-whole .ensures) (c .before .if1 .left))
 
 returns-2 : tie.Need-returns-2
-returns-2 c = lists-whole _ _ _ _ _ _ _ (granted (c .before .before .before .before .is-whole .ensures) (c .before .before .before .if1 .left))
-    (rw (toZ-ofZ w64 (c .before .before .before .before .before .before .before .args .literal) (c .before .before .before .before .before .before .before .fits .literal)) at (c .before .stored-explanation .ensures))
+returns-2 c = let s = c .before .before .before .before .before .before .before in
+    lists-whole _ _ _ _ _ _ _ (granted (c .before .before .before .before .is-whole .ensures) (c .before .before .before .if1 .left))
+    (rw (toZ-ofZ w64 (s .args .literal) (s .fits .literal)) at (c .before .stored-explanation .ensures))
 
 pub explain-within-spec : {M : Type 1} → statement M
 explain-within-spec =

@@ -5,7 +5,8 @@ use Rattle.explain.proofs.in_conflict.Statement.{statement}
 use Rattle.explain.proofs.in_conflict.Tie as tie
 
 says-requires : tie.Need-says-requires
-says-requires c κs = rw (c .before .least-at .ensures, c .greatest-at .ensures) (c .before .before .before .pre .sentence, c .before .before .before .pre .extremes)
+says-requires c κs = let s = c .before .before .before in
+    rw (c .before .least-at .ensures, c .greatest-at .ensures) (s .pre .sentence, s .pre .extremes)
 
 pub in-conflict-spec : {M : Type 1} → statement M
 in-conflict-spec =

@@ -26,12 +26,16 @@ loop-holds c = (omega arith, writing-starts)
 cause-at-requires : tie.Need-cause-at-requires Inv-loop μ-loop
 cause-at-requires c κs = (c .before .before .before .before .pre .0, omega (arith, c .before .before .merged-at .ensures, c .loop-test .taken))
 
-more : (c : tie.In-loop Inv-loop μ-loop) → c .before .loop .place ≤ merged-at (c .before .before .before .before .args .area .now) (c .before .before .before .before .args .base)
+more : (c : tie.In-loop Inv-loop μ-loop) → let s = c .before .before .before .before in
+    c .before .loop .place ≤ merged-at (s .args .area .now) (s .args .base)
 more c = omega (arith, c .before .before .merged-at .ensures, c .loop-test .taken)
 
 -- there is room for one literal more
-fits-here : (c : tie.After-negated Inv-loop μ-loop) → c .before .before .before .before .before .loop .at < length (c .before .before .before .before .before .loop .list)
-fits-here c = room-here (c .before .before .before .before .before .before .before .before .pre .0) (c .before .before .before .before .before .loop .place) (more (c .before .before .before .before)) (c .before .before .before .cause-at .ensures) (c .before .before .before .before .before .loop .inv .1) (c .before .before .before .before .before .before .before .before .pre .1) (c .before .before .if1 .taken)
+fits-here : (c : tie.After-negated Inv-loop μ-loop) → c .before .before .before .before .before .loop .at < length
+    (c .before .before .before .before .before .loop .list)
+fits-here c = let s = c .before .before .before .before .before .before .before .before in
+    room-here (s .pre .0) (c .before .before .before .before .before .loop .place) (more (c .before .before .before .before))
+    (c .before .before .before .cause-at .ensures) (c .before .before .before .before .before .loop .inv .1) (s .pre .1) (c .before .before .if1 .taken)
 
 loop-again : tie.Need-loop-again Inv-loop μ-loop
 loop-again c = let p = c .before .before .before .before .before .before .pre in
@@ -46,7 +50,8 @@ loop-again c = let p = c .before .before .before .before .before .before .pre in
     )
 
 returns : tie.Need-returns Inv-loop μ-loop
-returns c = writing-ends (c .before .before .before .before .pre .0) (omega (arith, c .before .before .merged-at .ensures, c .loop-test .left)) (c .before .loop .inv .1)
+returns c = writing-ends (c .before .before .before .before .pre .0) (omega (arith, c .before .before .merged-at .ensures, c .loop-test .left))
+    (c .before .loop .inv .1)
 
 pub write-causes-spec : {M : Type 1} → statement M
 write-causes-spec =

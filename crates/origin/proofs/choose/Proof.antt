@@ -10,20 +10,32 @@ slice-write-marks : tie.Need-slice-write-marks
 slice-write-marks c = inside _ _ (c .before .before .before .before .before .pre .0) _ (c .before .before .before .before .before .pre .1)
 
 mark-requires : tie.Need-mark-requires
-mark-requires c κs = rw (c .before .before .before .atoms-of .ensures, c .before .before .sentences-of .ensures) (markable _ _ (c .before .before .before .before .before .before .pre .0) _ (c .before .before .before .before .before .before .pre .1) _ (length-set (c .before .before .before .before .before .before .args .marks .now) (c .before .before .before .before .before .before .args .position) _))
+mark-requires c κs = let s = c .before .before .before .before .before .before in
+    rw (c .before .before .before .atoms-of .ensures, c .before .before .sentences-of .ensures)
+    (markable _ _ (s .pre .0) _ (s .pre .1) _ (length-set (s .args .marks .now) (s .args .position) _))
 
 same-size : (c : tie.After-mark) → length (c .mark .last .1 .1 .1 .1 .0) ≡ length (c .before .before .before .before .before .before .before .args .marks .now)
-same-size c = c .mark .ensures .size ∙ length-set (c .before .before .before .before .before .before .before .args .marks .now) (c .before .before .before .before .before .before .before .args .position) _
+same-size c = let s = c .before .before .before .before .before .before .before in
+    c .mark .ensures .size ∙ length-set (s .args .marks .now) (s .args .position) _
 
 count-chosen-requires : tie.Need-count-chosen-requires
-count-chosen-requires c κs = rw (c .before .before .before .before .before .before .before .atoms-of .ensures, c .before .before .before .before .before .length-of .ensures) (choosable _ _ (c .before .before .before .before .before .before .before .before .before .before .pre .0) _ (c .before .before .before .before .before .before .before .before .before .before .pre .1) _ (same-size (c .before .before .before)))
+count-chosen-requires c κs = let s = c .before .before .before .before .before .before .before .before .before .before in
+    rw (c .before .before .before .before .before .before .before .atoms-of .ensures, c .before .before .before .before .before .length-of .ensures)
+    (choosable _ _ (s .pre .0) _ (s .pre .1) _ (same-size (c .before .before .before)))
 
 same-length : tie.Need-same-length
 same-length c = same-size (c .before .before .before .before)
 
 returns : tie.Need-returns
-returns c = choice _ _ (c .before .before .before .before .before .before .before .before .before .before .before .pre .0) _ (c .before .before .before .before .before .before .before .before .before .before .before .pre .1) _ (rw (c .before .before .before .before .before .before .before .before .atoms-of .ensures, c .before .before .before .before .before .before .before .sentences-of .ensures) at (c .before .before .before .before .mark .ensures)) _
-    (rw (c .before .before .before .before .before .before .before .before .atoms-of .ensures, c .before .before .before .before .before .before .length-of .ensures) at (c .count-chosen .ensures))
+returns c = let s = c .before .before .before .before .before .before .before .before .before .before .before in
+    choice _ _ (s .pre .0) _ (s .pre .1) _ (rw (
+      c .before .before .before .before .before .before .before .before .atoms-of .ensures,
+      c .before .before .before .before .before .before .before .sentences-of .ensures,
+    ) at (c .before .before .before .before .mark .ensures)) _
+    (rw (
+      c .before .before .before .before .before .before .before .before .atoms-of .ensures,
+      c .before .before .before .before .before .before .length-of .ensures,
+    ) at (c .count-chosen .ensures))
 
 pub choose-spec : {M : Type 1} → statement M
 choose-spec =

@@ -27,8 +27,20 @@ loop-again c = let s = c .before .before .before .before .before .before in
       omega arith,
       ⊎-elim (λ y. omega (arith, y .1)) (λ y. omega (arith, y .1)) (c .if1 .came),
       ⊎-elim
-          (λ y. omega (arith, y .1, c .before .before .before .loop .inv .2, counted-more (s .args .area .now) (s .args .n) (s .args .marks .now) (c .before .before .before .loop .i) (told ∙ y .0 .taken)))
-          (λ y. omega (arith, y .1, c .before .before .before .loop .inv .2, counted-same (s .args .area .now) (s .args .n) (s .args .marks .now) (c .before .before .before .loop .i) (told ∙ y .0 .left)))
+          (λ y. omega (
+            arith,
+            y .1,
+            c .before .before .before .loop .inv .2,
+            counted-more (s .args .area .now) (s .args .n) (s .args .marks .now)
+                (c .before .before .before .loop .i) (told ∙ y .0 .taken),
+          ))
+          (λ y. omega (
+            arith,
+            y .1,
+            c .before .before .before .loop .inv .2,
+            counted-same (s .args .area .now) (s .args .n) (s .args .marks .now)
+                (c .before .before .before .loop .i) (told ∙ y .0 .left),
+          ))
           (c .if1 .came),
     )
 

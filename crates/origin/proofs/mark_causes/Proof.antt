@@ -18,21 +18,31 @@ ready : (c : tie.Start Inv-loop μ-loop) → Ready (c .args .area .now) (c .args
 ready c = c .pre .0 .sentence (c .args .s) (c .pre .1)
 
 cause-at-requires : tie.Need-cause-at-requires Inv-loop μ-loop
-cause-at-requires c κs = let p = c .before .before .before .before .before .pre .0 in
-    (record { sentence = ready (c .before .before .before .before .before); rows = p .rows; trail-asked = p .trail-asked; few = omega (arith, p .position) }, omega (arith, c .before .before .merged-at .ensures, c .loop-test .taken))
+cause-at-requires c κs = let p = c .before .before .before .before .before .pre .0 in (
+  record {
+    sentence = ready (c .before .before .before .before .before);
+    rows = p .rows;
+    trail-asked = p .trail-asked;
+    few = omega (arith, p .position);
+  },
+  omega (arith, c .before .before .merged-at .ensures, c .loop-test .taken),
+)
 
 slice-write-marks : tie.Need-slice-write-marks Inv-loop μ-loop
 slice-write-marks c = let q = c .before .before .before .before .before .before .before in
-    cause-room _ _ _ (q .args .s) _ _ (q .pre .0) (q .pre .1) _ _ (c .before .before .before .loop .inv .1) _ (c .before .cause-at .ensures) (omega (arith, c .before .before .before .before .merged-at .ensures, c .before .before .loop-test .taken)) (c .if1 .taken)
+    cause-room _ _ _ (q .args .s) _ _ (q .pre .0) (q .pre .1) _ _ (c .before .before .before .loop .inv .1) _ (c .before .cause-at .ensures)
+    (omega (arith, c .before .before .before .before .merged-at .ensures, c .before .before .loop-test .taken)) (c .if1 .taken)
 
 add-place : tie.Need-add-place Inv-loop μ-loop
-add-place c = let r = ready (c .before .before .before .before .before .before .before) .1 in omega (arith, c .before .before .before .before .merged-at .ensures, r .merged, r .fitting .each)
+add-place c = let r = ready (c .before .before .before .before .before .before .before) .1 in omega
+    (arith, c .before .before .before .before .merged-at .ensures, r .merged, r .fitting .each)
 
 loop-again : tie.Need-loop-again Inv-loop μ-loop
 loop-again c = let q = c .before .before .before .before .before .before .before in
     let s = q .args .s in
     let told = c .before .cause-at .ensures in
-    let more : c .before .before .before .loop .place ≤ merged-at (q .args .area .now) (record-at (q .args .n) s) = omega (arith, c .before .before .before .before .merged-at .ensures, c .before .before .loop-test .taken) in (
+    let more : c .before .before .before .loop .place ≤ merged-at (q .args .area .now) (record-at (q .args .n) s) = omega
+    (arith, c .before .before .before .before .merged-at .ensures, c .before .before .loop-test .taken) in (
       omega arith,
       ⊎-elim
           (λ y. rw (y .1) (cause-named _ _ _ s _ _ (q .pre .0) (q .pre .1) _ _ (c .before .before .before .loop .inv .1) _ told more (y .0 .taken)))
@@ -41,7 +51,8 @@ loop-again c = let q = c .before .before .before .before .before .before .before
     )
 
 returns : tie.Need-returns Inv-loop μ-loop
-returns c = all-named _ _ _ (c .before .before .before .before .before .args .s) _ _ (c .before .before .before .before .before .pre .0) (c .before .before .before .before .before .pre .1) _ _ (c .before .loop .inv .1) (omega (arith, c .before .before .merged-at .ensures, c .loop-test .left))
+returns c = all-named _ _ _ (c .before .before .before .before .before .args .s) _ _ (c .before .before .before .before .before .pre .0)
+    (c .before .before .before .before .before .pre .1) _ _ (c .before .loop .inv .1) (omega (arith, c .before .before .merged-at .ensures, c .loop-test .left))
 
 pub mark-causes-spec : {M : Type 1} → statement M
 mark-causes-spec =

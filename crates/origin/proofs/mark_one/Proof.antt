@@ -10,10 +10,13 @@ returns-2 : tie.Need-returns-2
 returns-2 c = given-adds _ _ _ _ _ (rw (c .before .row-reason .ensures) at (c .if2 .taken))
 
 mark-causes-requires : tie.Need-mark-causes-requires
-mark-causes-requires c κs = let p = c .before .before .before .before .before .before .before .pre in (p, omega (arith, c .before .before .row-reason .ensures, p .reasons (c .before .before .before .before .before .before .before .args .position) (p .position), c .before .if2 .left))
+mark-causes-requires c κs = let s = c .before .before .before .before .before .before .before in
+    let p = s .pre in (p, omega (arith, c .before .before .row-reason .ensures, p .reasons (s .args .position) (p .position), c .before .if2 .left))
 
 returns-3 : tie.Need-returns-3
-returns-3 c = derived-adds _ _ _ _ _ _ (c .before .before .before .before .before .before .if1 .left) (λ z. c .before .before .before .before .if2 .left (c .before .before .before .before .before .row-reason .ensures ∙ z)) (rw (c .before .before .before .before .before .row-reason .ensures) at (c .before .before .mark-causes .ensures))
+returns-3 c = derived-adds _ _ _ _ _ _ (c .before .before .before .before .before .before .if1 .left)
+    (λ z. c .before .before .before .before .if2 .left (c .before .before .before .before .before .row-reason .ensures ∙ z))
+    (rw (c .before .before .before .before .before .row-reason .ensures) at (c .before .before .mark-causes .ensures))
 
 pub mark-one-spec : {M : Type 1} → statement M
 mark-one-spec =

@@ -23,7 +23,8 @@ loop-holds : tie.Need-loop-holds Inv-loop μ-loop
 loop-holds c = (omega arith, ap length (sym (none-chosen _ _ _)), none-written _ _ _ _)
 
 is-chosen-requires : tie.Need-is-chosen-requires Inv-loop μ-loop
-is-chosen-requires c κs = let p = c .before .before .before .before .pre .0 in record { few = omega (arith, p .few); words = p .words; marks = omega (arith, p .marks) }
+is-chosen-requires c κs = let p = c .before .before .before .before .pre .0 in record
+    { few = omega (arith, p .few); words = p .words; marks = omega (arith, p .marks) }
 
 literal-at-requires : tie.Need-literal-at-requires Inv-loop μ-loop
 literal-at-requires c κs = let p = c .before .before .before .before .before .before .pre .0 in omega (arith, p .few, p .words)
@@ -33,11 +34,25 @@ room : (c : tie.Then1 Inv-loop μ-loop) → c .before .before .before .loop .at 
 room c = let s = c .before .before .before .before .before .before in
     let w = s .args .area .now in
     let m = s .args .marks .now in
-    omega (arith, s .pre .1, c .before .before .before .loop .inv .1, counted-more w (s .args .n) m (c .before .before .before .loop .i) (sym (c .before .is-chosen .ensures) ∙ c .if1 .taken), never-fewer w (s .args .n) m (c .before .before .before .loop .i + 1) (s .args .rows) (omega arith))
+    omega (
+      arith,
+      s .pre .1,
+      c .before .before .before .loop .inv .1,
+      counted-more w (s .args .n) m (c .before .before .before .loop .i)
+          (sym (c .before .is-chosen .ensures) ∙ c .if1 .taken),
+      never-fewer w (s .args .n) m (c .before .before .before .loop .i + 1) (s .args .rows) (omega arith),
+    )
 
 slice-set-from-list : tie.Need-slice-set-from-list Inv-loop μ-loop
-slice-set-from-list c = let more = room (c .before .before) in
-    omega (arith, more, written-length (c .before .before .before .before .before .before .before .before .args .area .now) (c .before .before .before .before .before .before .before .before .args .n) (c .before .before .before .before .before .before .before .before .args .marks .now) (c .before .before .before .before .before .loop .i) (c .before .before .before .before .before .before .before .before .args .list .now) (c .before .before .before .before .before .loop .list) (c .before .before .before .before .before .loop .inv .2) (omega (arith, more)))
+slice-set-from-list c = let s = c .before .before .before .before .before .before .before .before in
+    let more = room (c .before .before) in
+    omega (
+      arith,
+      more,
+      written-length (s .args .area .now) (s .args .n) (s .args .marks .now) (c .before .before .before .before .before .loop .i)
+          (s .args .list .now) (c .before .before .before .before .before .loop .list) (c .before .before .before .before .before .loop .inv .2)
+          (omega (arith, more)),
+    )
 
 loop-again : tie.Need-loop-again Inv-loop μ-loop
 loop-again c = let s = c .before .before .before .before .before .before in
@@ -63,7 +78,8 @@ loop-again c = let s = c .before .before .before .before .before .before in
 
 same-length : tie.Need-same-length Inv-loop μ-loop
 same-length c = let s = c .before .before .before .before in
-    written-length _ _ _ (c .before .loop .i) _ _ (c .before .loop .inv .2) (omega (arith, s .pre .1, never-fewer (s .args .area .now) (s .args .n) (s .args .marks .now) (c .before .loop .i) (s .args .rows) (omega arith)))
+    written-length _ _ _ (c .before .loop .i) _ _ (c .before .loop .inv .2)
+    (omega (arith, s .pre .1, never-fewer (s .args .area .now) (s .args .n) (s .args .marks .now) (c .before .loop .i) (s .args .rows) (omega arith)))
 
 returns : tie.Need-returns Inv-loop μ-loop
 returns c = let e : c .before .loop .i ≡ c .before .before .before .before .args .rows = omega arith in rw e at (c .before .loop .inv .2)
