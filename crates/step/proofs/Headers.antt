@@ -12,10 +12,11 @@ use Rattle.book.specs.Rows.{Row}
 use Rattle.area.specs.Layout.{word, atoms-of, sentences-of, length-of, level-of, rows-from, value-word}
 use Rattle.area.specs.Whole.{AtomsOnce, Rising}
 use Rattle.trail_check.specs.Trail.{TrailOk}
+use Rattle.trail_check.proofs.Rows.{rows-kept}
 use Rattle.step.specs.Step.{Standing, Cut}
 use Rattle.step.specs.Header.{header-word}
 use Rattle.step.proofs.Fields.{atoms-field, sentences-field, length-field, level-field}
-use Rattle.step.proofs.Rows.{rows-kept, rising-higher}
+use Rattle.step.proofs.Rows.{rising-higher}
 
 -- the list that `set_header` leaves
 abbrev pub headed : List ℕ → ℕ → ℕ → ℕ → List ℕ

@@ -17,13 +17,13 @@ use Rattle.book.specs.Rows.{Row, row, trail}
 use Rattle.area.specs.Layout.{word, atoms-of, sentences-of, length-of, level-of, value-at, literal-at, mark-at, row-at, place-at, rows-from, value-word}
 use Rattle.area.specs.Whole.{AtomsOnce, Rising}
 use Rattle.trail_check.specs.Trail.{TrailOk}
-use Rattle.trail_check.proofs.Rows.{rows-length, atom-of}
+use Rattle.trail_check.proofs.Rows.{rows-kept, rows-length, atom-of}
 use Rattle.trail_check.proofs.Values.{sign-of, value-word-same, value-word-other}
 use Rattle.trail_check.proofs.Few.{few}
 use Rattle.trail_check.proofs.Shown.{shows}
 use Rattle.step.specs.Step.{Standing, put-on, Puttable}
 use Rattle.step.proofs.Fields.{more-atoms, more-sentences, more-length, more-level}
-use Rattle.step.proofs.Rows.{same-or-not, rows-kept, zero-absent}
+use Rattle.step.proofs.Rows.{same-or-not, zero-absent}
 
 -- what becomes of each word
 record Changed (w w′ : List ℕ) (n len literal mark : ℕ) : Type 0 where

@@ -1,15 +1,14 @@
--- Rows are made of their words alone; an atom's value word is 0 just where no row has the atom; levels that rise to k are all kept.
-use mathlib.Core.Path.{_≡_, refl, sym, _∙_, ap, ap₂}
+-- An atom's value word is 0 just where no row has the atom; levels that rise to k are all kept.
+use mathlib.Core.Path.{_≡_, refl, sym, _∙_, ap}
 use mathlib.Core.Bool.{cond}
 use mathlib.Core.List.{List, [], _∷_}
-use Prim.Native.Nat.{ℕ, zero, suc, _/_, _%_, _<_, _≤_}
+use Prim.Native.Nat.{ℕ, _<_, _≤_}
 use native.Mathlib.Omega.{arith}
 use native.Mathlib.Decide.{ℕ-discrete}
 use borrow.Author.Tests.{le-leb, lt-leb}
-use Rattle.numbers.specs.Words.{literal-of}
 use Rattle.meaning.specs.Meaning.{atom, Each}
-use Rattle.book.specs.Rows.{Row, row, up-to}
-use Rattle.area.specs.Layout.{literal-at, mark-at, rows-from, value-word}
+use Rattle.book.specs.Rows.{Row, up-to}
+use Rattle.area.specs.Layout.{value-word}
 use Rattle.area.specs.Whole.{Rising}
 use Rattle.trail_check.proofs.Values.{value-word-same, value-word-other}
 
@@ -20,14 +19,6 @@ same-or-not {P} i k here other = go (ℕ-discrete i k)
     go : Dec (i ≡ k) → P
     go (yes e) = here e
     go (no d) = other d
-
-pub rows-kept : (w w′ : List ℕ) (n k : ℕ) → ((i : ℕ) → i < k → literal-at w′ n i ≡ literal-at w n i) → ((i : ℕ) → i < k → mark-at w′ n i ≡ mark-at w n i)
-    → rows-from w′ n k ≡ rows-from w n k
-unfolding rows-from
-rows-kept w w′ n zero l m = refl
-rows-kept w w′ n (suc k) l m = ap₂ {A = Row} {B = List Row} _∷_
-    (ap₂ {A = ℕ} {B = ℕ} (λ x y. row (literal-of x) (y % 65536) (y / 65536 % 65536)) (l k (omega arith)) (m k (omega arith)))
-    (rows-kept w w′ n k (λ i h. l i (omega arith)) (λ i h. m i (omega arith)))
 
 -- ---- an atom that no row has
 

@@ -11,9 +11,9 @@ use Rattle.book.specs.Rows.{Row}
 use Rattle.area.specs.Layout.{word, value-at, literal-at, mark-at, row-at, rows-from, value-word}
 use Rattle.area.specs.Whole.{AtomsOnce, Rising}
 use Rattle.trail_check.specs.Trail.{TrailOk}
-use Rattle.trail_check.proofs.Rows.{rows-last, atom-of, atom-low, atom-high}
+use Rattle.trail_check.proofs.Rows.{rows-kept, rows-last, atom-of, atom-low, atom-high}
 use Rattle.trail_check.proofs.Values.{value-word-other}
-use Rattle.step.proofs.Rows.{same-or-not, rows-kept, absent-zero, rising-higher}
+use Rattle.step.proofs.Rows.{same-or-not, absent-zero, rising-higher}
 
 abbrev pub taken-off : List ℕ → ℕ → ℕ → List ℕ
 taken-off w n i = set (set (set w (n - 1 + literal-at w n i / 2) 0) (2 * n + i) 0) (3 * n + i) 0

@@ -1,9 +1,9 @@
 -- The rows of a work area: what holds of each place holds of each row and back, and an atom that stands once is
 -- at one place. Rows stand newest first, so that the rows before a row are those behind it.
-use mathlib.Core.Path.{_≡_, refl, sym, _∙_, ap, subst}
+use mathlib.Core.Path.{_≡_, refl, sym, _∙_, ap, ap₂, subst}
 use mathlib.Core.Logic.{⊎-elim}
 use mathlib.Core.List.{List, _∷_}
-use Prim.Native.Nat.{ℕ, zero, suc, _-_, _/_, _<_, _≤_}
+use Prim.Native.Nat.{ℕ, zero, suc, _-_, _/_, _%_, _<_, _≤_}
 use native.Mathlib.Omega.{arith}
 use native.Mathlib.Nat.{eq-or-lt-of-le}
 use lib.ListN.{length}
@@ -11,8 +11,8 @@ use lib.IntN.{ℤ, pos, negsuc, natAbs}
 use Rattle.numbers.specs.Words.{literal-of}
 use Rattle.numbers.proofs.Words.{cases, literal-none, literal-atom}
 use Rattle.meaning.specs.Meaning.{atom, Each}
-use Rattle.book.specs.Rows.{Row}
-use Rattle.area.specs.Layout.{literal-at, row-at, rows-from}
+use Rattle.book.specs.Rows.{Row, row}
+use Rattle.area.specs.Layout.{literal-at, mark-at, row-at, rows-from}
 use Rattle.area.specs.Whole.{AtomsOnce}
 
 pub rows-length : (w : List ℕ) (n k : ℕ) → length (rows-from w n k) ≡ k
@@ -24,6 +24,15 @@ pub rows-last : (w : List ℕ) (n k : ℕ) → 0 < k → rows-from w n k ≡ row
 unfolding rows-from
 rows-last w n zero h = let b : ⊥ = omega arith in absurd b
 rows-last w n (suc k) h = let e : k ≡ suc k - 1 = omega arith in ap (λ j. row-at w n j ∷ rows-from w n j) e
+
+-- rows are made of their words alone
+pub rows-kept : (w w′ : List ℕ) (n k : ℕ) → ((i : ℕ) → i < k → literal-at w′ n i ≡ literal-at w n i) → ((i : ℕ) → i < k → mark-at w′ n i ≡ mark-at w n i)
+    → rows-from w′ n k ≡ rows-from w n k
+unfolding rows-from
+rows-kept w w′ n zero l m = refl
+rows-kept w w′ n (suc k) l m = ap₂ {A = Row} {B = List Row} _∷_
+    (ap₂ {A = ℕ} {B = ℕ} (λ x y. row (literal-of x) (y % 65536) (y / 65536 % 65536)) (l k (omega arith)) (m k (omega arith)))
+    (rows-kept w w′ n k (λ i h. l i (omega arith)) (λ i h. m i (omega arith)))
 
 module _ (P : Row → Type 0) (w : List ℕ) (n : ℕ) where
   pub each-row : (k : ℕ) → ((i : ℕ) → i < k → P (row-at w n i)) → Each P (rows-from w n k)

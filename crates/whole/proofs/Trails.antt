@@ -1,8 +1,8 @@
 -- What is read off word 0 and the trail's words is the same in two lists with the same words there; and a row's reason stays right where
 -- the theory is the same besides.
-use mathlib.Core.Path.{_≡_, refl, sym, ap, ap₂, _∙_, subst}
-use mathlib.Core.List.{List, _∷_}
-use Prim.Native.Nat.{ℕ, zero, suc, _+_, _*_, _-_, _/_, _%_, _<_, _≤_}
+use mathlib.Core.Path.{_≡_, sym, ap, ap₂, _∙_, subst}
+use mathlib.Core.List.{List}
+use Prim.Native.Nat.{ℕ, suc, _+_, _*_, _-_, _/_, _%_, _<_, _≤_}
 use native.Mathlib.Omega.{arith}
 use lib.ListN.{length, getD}
 use lib.IntN.{ℤ}
@@ -14,6 +14,7 @@ use Rattle.book.specs.Rows.{Row}
 use Rattle.area.specs.Layout.{word, atoms-of, sentences-of, value-at, literal-at, mark-at, row-at, rows-from, value-word}
 use Rattle.area.specs.Whole.{AtomsOnce, Rising, Reasoned}
 use Rattle.extremes.specs.Stored.{Shows, standing-word}
+use Rattle.trail_check.proofs.Rows.{rows-kept}
 use Rattle.trail_check.specs.Trail.{HeaderOk, TrailOk}
 use Rattle.whole.proofs.Theories.{SameTheory, rule-stays}
 
@@ -42,13 +43,8 @@ module _ (w w′ : List ℕ) (n : ℕ) (front : (i : ℕ) → i < 4 * n → word
   mark-stays : (i : ℕ) → i < n → mark-at w′ n i ≡ mark-at w n i
   mark-stays i h = front (3 * n + i) (omega arith)
 
-  row-stays : (i : ℕ) → i < n → row-at w′ n i ≡ row-at w n i
-  row-stays i h = rw (literal-stays i h, mark-stays i h)
-
   pub rows-stay : (k : ℕ) → k ≤ n → rows-from w′ n k ≡ rows-from w n k
-  unfolding rows-from
-  rows-stay zero h = refl
-  rows-stay (suc k) h = ap₂ {A = Row} {B = List Row} (λ r rs. r ∷ rs) (row-stays k h) (rows-stay k (omega arith))
+  rows-stay k h = rows-kept w w′ n k (λ i l. literal-stays i (omega arith)) (λ i l. mark-stays i (omega arith))
 
   pub trail-stays : (len level : ℕ) → len ≤ n → TrailOk w n len level → TrailOk w′ n len level
   trail-stays len level few t = let rows = rows-stay len few in record {

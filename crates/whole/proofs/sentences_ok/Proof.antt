@@ -20,26 +20,20 @@ abbrev μ-loop : tie.MeasureT-loop
 own-inside : (c : tie.In-loop Inv-loop μ-loop) → record-at (c .before .before .before .args .n) (c .before .loop .s) + 8 ≤ length (c .before .before .before .args .area .now)
 own-inside c = inside (c .before .before .before .pre) (c .before .loop .s) (c .loop-test .taken)
 
-sentence-ok-requires : tie.Need-sentence-ok-requires Inv-loop μ-loop
-sentence-ok-requires c κs = checkable (c .before .before .before .before .pre) (c .before .before .loop .s) (c .before .loop-test .taken) _ (c .before .before .loop .inv .stamps)
-
 returns : tie.Need-returns Inv-loop μ-loop
 returns c = words-wrong (c .before .before .before .before .before .before .before .pre) (c .before .before .before .before .before .loop .s) (c .before .before .before .before .loop-test .taken) (denied (c .before .before .sentence-ok .ensures .tells) (c .if1 .taken))
-
-matching-requires : tie.Need-matching-requires Inv-loop μ-loop
-matching-requires c κs = ready (c .before .before .before .before .before .before .before .pre) (c .before .before .before .before .before .loop .s) (c .before .before .before .before .loop-test .taken) (granted (c .before .before .sentence-ok .ensures .tells) (c .if1 .left))
 
 returns-2 : tie.Need-returns-2 Inv-loop μ-loop
 returns-2 c = matching-wrong (c .before .before .before .before .before .before .before .before .before .pre) (c .before .before .before .before .before .before .before .loop .s) (c .before .before .before .before .before .before .loop-test .taken) (c .before .matching .ensures) (c .if2 .taken)
 
 loop-again : tie.Need-loop-again Inv-loop μ-loop
-loop-again c = one-passed (c .before .before .before .before .before .before .before .before .before .pre) (c .before .before .before .before .before .before .before .loop .s) (c .before .before .before .before .before .before .loop-test .taken) _ _ (c .before .before .before .before .before .before .before .loop .inv) (c .before .before .before .before .sentence-ok .ensures .stamps) (granted (c .before .before .before .before .sentence-ok .ensures .tells) (c .before .before .if1 .left)) (c .before .matching .ensures) (c .if2 .left)
+loop-again c = search (one-passed, granted (c .before .before .before .before .sentence-ok .ensures .tells) (c .before .before .if1 .left))
 
 pub sentences-ok-spec : {M : Type 1} → statement M
 sentences-ok-spec =
     tie.close
     (tie.spec
     Inv-loop μ-loop (λ c. none-passed (c .before .pre)) (λ c. omega (arith, own-inside c)) (λ c. omega (arith, own-inside c))
-    (λ c. omega (arith, own-inside c)) (λ c. sym (c .before .before .loop .inv .stamps .size)) (λ c. search needs) sentence-ok-requires returns
-    matching-requires returns-2 (λ c. search needs) (λ c. search needs) loop-again
-    (λ c. all-passed (c .before .before .before .pre) (c .before .loop .s) _ (c .before .loop .inv) (omega arith)))
+    (λ c. omega (arith, own-inside c)) (λ c. sym (c .before .before .loop .inv .stamps .size)) (λ c. search needs) (λ c κs. search checkable) returns
+    (λ c κs. search (ready, granted (c .before .before .sentence-ok .ensures .tells) (c .if1 .left))) returns-2 (λ c. search needs)
+    (λ c. search needs) loop-again (λ c. all-passed (c .before .before .before .pre) (c .before .loop .s) _ (c .before .loop .inv) (omega arith)))
