@@ -21,7 +21,7 @@ loop-holds c = let s = c .before .before .pre .0 .standing in
     cutting-starts _ _ _ _ _ _ (omega arith) (omega arith) (omega arith) (subst (TrailOk _ _ _) (sym (s .header .level-is)) (s .trail-ok)) (c .before .before .pre .1)
 
 returns : tie.Need-returns Inv-loop μ-loop
-returns c = cut-at-row _ _ _ _ _ _ _ _ (c .before .before .before .before .loop .inv) (c .before .before .before .loop-test .taken) (omega arith) _
+returns c = cut-at-row _ _ _ _ _ _ _ _ (c .before .before .before .before .loop .inv) (c .before .before .before .loop-test .taken) (rw (c .before .row-level .ensures) at (c .if1 .taken)) _
 
 -- the last row is of an atom
 last-row : (c : tie.After-literal-at Inv-loop μ-loop) → let l = c .before .before .before .before .before .before .loop in let n = c .before .before .before .before .before .before .before .before .before .args .n in
@@ -35,7 +35,8 @@ slice-write-area-2 : tie.Need-slice-write-area-2 Inv-loop μ-loop
 slice-write-area-2 c = simp length-set (literal-there _ _ _ _ _ _ _ _ (c .before .before .before .before .before .before .loop .inv) (c .before .before .before .before .before .loop-test .taken))
 
 loop-again : tie.Need-loop-again Inv-loop μ-loop
-loop-again c = rw (c .literal-at .ensures) (cutting-goes-on _ _ _ _ _ _ _ _ (c .before .before .before .before .before .before .loop .inv) (c .before .before .before .before .before .loop-test .taken) (omega arith))
+loop-again c = rw (c .literal-at .ensures) (cutting-goes-on _ _ _ _ _ _ _ _ (c .before .before .before .before .before .before .loop .inv) (c .before .before .before .before .before .loop-test .taken)
+    (rw (c .before .before .before .row-level .ensures) at (c .before .before .if1 .left)))
 
 pub cut-spec : {M : Type 1} → statement M
 cut-spec =
