@@ -12,7 +12,7 @@ use mir.Syntax.{Sym, Ty, Name, Fn, Body, Opd, named, erased, mut, imm, w64, tyIn
 use mir.Val.{Val, vint, vptr, ofZ, vstruct, vcons, vnil, hasTy, WT}
 use base.Logic.{SProp, ent, emp, via, fst∗, id⊢}
 use base.Fml.{GName, ftrue, fat, feq, flft, fobs, fbor, fsep}
-use prog.Wp.{Heap, Calls, Loops, WpFn, Tables}
+use prog.Wp.{Heap, WpFn, Tables}
 use ghost.Atoms.{Atoms, sem}
 use contract.Lifetimes.{Lfts, Shares, Within, lftAt, toks}
 use contract.Monad.{fact, factI}
@@ -20,7 +20,7 @@ use types.Kit.{Item, Given, ‵, raw, _⊛_, mean, ⋆, some, later, _$_, _∵_,
 use types.Part.{agg, whole, sub, look-in}
 use types.Run.{look, look-raw, init, store-raw, forget, stop, hop, fld, from, load, addr, of-opd, and-then, no-more, assigns, land, returns, enter, alloc1, alloc0, params1, pass1, pass0, free1, free0}
 use types.SemTy.{Body as BodyOf}
-use sound.WpLaws.{FmC, fmOf, WpFn-mono}
+use sound.WpLaws.{fmOf, WpFn-mono}
 use denote.RattleType.{RattleType, owns}
 use denote.Laws.{Is, Tells, Copy, shows}
 use denote.Memory.{mem}
