@@ -8,11 +8,16 @@ use Rattle.trail.specs.Ready.{Usable}
 use Rattle.propagate.proofs.propagate_within.Statement.{statement}
 use Rattle.propagate.proofs.propagate_within.Tie as tie
 
-usable : (c : tie.Else1) → Usable (c .before .before .before .before .args .lim) (c .before .before .before .before .args .area .now) (counted (c .before .before .before .before .args .counters))
+usable : (c : tie.Else1) → let s = c .before .before .before .before in
+    Usable (s .args .lim) (s .args .area .now) (counted (s .args .counters))
 usable c = record { fitting = c .before .before .before .before .pre; whole = granted (c .before .is-whole .ensures) (c .if1 .left) }
 
 returns-2 : tie.Need-returns-2
-returns-2 c = (c .before .before .propagate-whole .ensures .0 (c .before .before .before .before .before .before .before .before .args .lim) (usable (c .before .before .before .before)), c .before .before .propagate-whole .ensures .1)
+returns-2 c = (
+  c .before .before .propagate-whole .ensures .0 (c .before .before .before .before .before .before .before .before .args .lim)
+      (usable (c .before .before .before .before)),
+  c .before .before .propagate-whole .ensures .1,
+)
 
 pub propagate-within-spec : {M : Type 1} → statement M
 propagate-within-spec =

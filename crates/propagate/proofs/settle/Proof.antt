@@ -18,10 +18,16 @@ loop-holds : tie.Need-loop-holds Inv-loop μ-loop
 loop-holds c = (omega arith, none-settled _ _)
 
 loop-again : tie.Need-loop-again Inv-loop μ-loop
-loop-again c = rw (c .before .before .clear-pending .ensures) (omega arith, one-settled _ (c .before .before .before .before .before .before .before .args .n) (c .before .before .before .before .before .loop .area) (c .before .before .before .before .before .loop .s) (omega arith) (c .before .before .before .before .before .loop .inv .1))
+loop-again c = rw (c .before .before .clear-pending .ensures) (
+  omega arith,
+  one-settled _ (c .before .before .before .before .before .before .before .args .n)
+      (c .before .before .before .before .before .loop .area) (c .before .before .before .before .before .loop .s) (omega arith)
+      (c .before .before .before .before .before .loop .inv .1),
+)
 
 returns : tie.Need-returns Inv-loop μ-loop
-returns c = let e : c .before .loop .s ≡ c .before .before .before .args .count = omega arith in subst (Settled _ _ (c .before .before .before .args .n)) e (c .before .loop .inv .1)
+returns c = let e : c .before .loop .s ≡ c .before .before .before .args .count = omega arith in subst (Settled _ _ (c .before .before .before .args .n)) e
+    (c .before .loop .inv .1)
 
 pub settle-spec : {M : Type 1} → statement M
 settle-spec =

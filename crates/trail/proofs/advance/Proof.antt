@@ -5,10 +5,12 @@ use Rattle.trail.proofs.advance.Statement.{statement}
 use Rattle.trail.proofs.advance.Tie as tie
 
 refresh-requires : tie.Need-refresh-requires
-refresh-requires c κs = rw (c .before .before .before .before .before .put .ensures) (c .before .before .before .before .before .before .before .before .pre .0, search refresh-ready)
+refresh-requires c κs = rw (c .before .before .before .before .before .put .ensures)
+    (c .before .before .before .before .before .before .before .before .pre .0, search refresh-ready)
 
 returns : tie.Need-returns
-returns c = λ lim level a. advance-done lim _ _ _ _ level _ _ a _ (c .before .before .before .before .before .only .ensures .1) _ (rw (c .before .before .before .before .before .before .before .before .put .ensures) at (c .before .before .refresh .ensures))
+returns c = λ lim level a. advance-done lim _ _ _ _ level _ _ a _ (c .before .before .before .before .before .only .ensures .1) _
+    (rw (c .before .before .before .before .before .before .before .before .put .ensures) at (c .before .before .refresh .ensures))
 
 pub advance-spec : {M : Type 1} → statement M
 advance-spec = tie.close

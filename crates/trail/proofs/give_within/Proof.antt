@@ -10,11 +10,13 @@ use Rattle.trail.specs.Ready.{Usable}
 use Rattle.trail.proofs.give_within.Statement.{statement}
 use Rattle.trail.proofs.give_within.Tie as tie
 
-usable : (c : tie.Else1) → Usable (c .before .before .before .before .args .lim) (c .before .before .before .before .args .area .now) (counted (c .before .before .before .before .args .counters))
+usable : (c : tie.Else1) → let s = c .before .before .before .before in
+    Usable (s .args .lim) (s .args .area .now) (counted (s .args .counters))
 usable c = record { fitting = c .before .before .before .before .pre; whole = granted (c .before .is-whole .ensures) (c .if1 .left) }
 
 returns-2 : tie.Need-returns-2
-returns-2 c = rw (toZ-ofZ w64 (c .before .before .before .before .before .before .before .before .args .literal) (c .before .before .before .before .before .before .before .before .fits .literal)) at (c .before .before .give-whole .ensures (c .before .before .before .before .before .before .before .before .args .lim) (usable (c .before .before .before .before)))
+returns-2 c = let s = c .before .before .before .before .before .before .before .before in
+    rw (toZ-ofZ w64 (s .args .literal) (s .fits .literal)) at (c .before .before .give-whole .ensures (s .args .lim) (usable (c .before .before .before .before)))
 
 pub give-within-spec : {M : Type 1} → statement M
 give-within-spec =
