@@ -20,13 +20,25 @@ loop-holds : tie.Need-loop-holds Inv-loop μ-loop
 loop-holds c = (omega arith, none-written _ _ _)
 
 write-row-requires : tie.Need-write-row-requires Inv-loop μ-loop
-write-row-requires c κs = let size = written-length _ (c .before .before .before .before .before .before .before .before .args .n) (c .before .before .before .before .before .before .loop .i) _ _ (omega (arith, c .before .before .before .before .before .before .before .before .pre .2)) (c .before .before .before .before .before .before .loop .inv .1) in
-    (omega (arith, c .before .before .before .before .before .loop-test .taken, c .before .before .before .before .before .before .before .before .pre .2, size), omega (arith, c .before .before .row-level .ensures), omega (arith, c .before .row-reason .ensures))
+write-row-requires c κs = let s = c .before .before .before .before .before .before .before .before in
+    let size = written-length _ (s .args .n) (c .before .before .before .before .before .before .loop .i) _ _ (omega (arith, s .pre .2))
+    (c .before .before .before .before .before .before .loop .inv .1) in (
+      omega (arith, c .before .before .before .before .before .loop-test .taken, s .pre .2, size),
+      omega (arith, c .before .before .row-level .ensures),
+      omega (arith, c .before .row-reason .ensures),
+    )
 
 loop-again : tie.Need-loop-again Inv-loop μ-loop
-loop-again c = let l = c .before .before .before .before .before .literal-of .result in
-    let same = toZ-ofZ w64 l (search needs) ∙ c .before .before .before .before .before .literal-of .ensures ∙ ap {A = ℕ} literal-of (c .before .before .before .before .before .before .literal-at .ensures) in
-    (omega arith, c .before .write-row .ensures ∙ row-written _ (c .before .before .before .before .before .before .before .before .before .before .args .n) (c .before .before .before .before .before .before .before .before .loop .i) _ _ (omega (arith, c .before .before .before .before .before .before .before .loop-test .taken, c .before .before .before .before .before .before .before .before .before .before .pre .2)) (c .before .before .before .before .before .before .before .before .loop .inv .1) same (c .before .before .before .before .row-level .ensures) (c .before .before .before .row-reason .ensures))
+loop-again c = let s = c .before .before .before .before .before .before .before .before .before .before in
+    let l = c .before .before .before .before .before .literal-of .result in
+    let same = toZ-ofZ w64 l (search needs) ∙ c .before .before .before .before .before .literal-of .ensures ∙ ap {A = ℕ} literal-of
+    (c .before .before .before .before .before .before .literal-at .ensures) in (
+      omega arith,
+      c .before .write-row .ensures ∙ row-written _ (s .args .n) (c .before .before .before .before .before .before .before .before .loop .i) _
+          _ (omega (arith, c .before .before .before .before .before .before .before .loop-test .taken, s .pre .2))
+          (c .before .before .before .before .before .before .before .before .loop .inv .1) same (c .before .before .before .before .row-level .ensures)
+          (c .before .before .before .row-reason .ensures),
+    )
 
 same-length : tie.Need-same-length Inv-loop μ-loop
 same-length c = written-length _ (c .before .before .before .args .n) (c .before .loop .i) _ _ (omega arith) (c .before .loop .inv .1)
