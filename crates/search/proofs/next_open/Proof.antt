@@ -28,14 +28,20 @@ abbrev μ-loop : tie.MeasureT-loop
 μ-loop area literals start n j₀ j = length literals - j
 
 -- the atom of literal j, one of the area's, and its value word
-at : (c : tie.After-atom-of Inv-loop μ-loop) → IsAtom (atoms-of (c .before .before .before .before .before .before .args .area .now)) (nth (c .before .before .before .before .before .before .args .literals .now) (c .before .before .before .loop .j)) (c .atom-of .result)
-at c = let l = nth (c .before .before .before .before .before .before .args .literals .now) (c .before .before .before .loop .j) in
-    known-atom _ (rw (c .before .before .before .before .atoms-of .ensures) at (told-atom l (record { sfits = c .before .atom-of-arg .given }) (c .atom-of .ensures)))
-    (known-at _ (c .before .before .before .before .before .before .args .literals .now) (c .before .before .before .before .before .before .pre .searchable .known) (c .before .before .before .loop .j) (omega arith))
+at : (c : tie.After-atom-of Inv-loop μ-loop) → let s = c .before .before .before .before .before .before in
+    IsAtom (atoms-of (s .args .area .now)) (nth (s .args .literals .now) (c .before .before .before .loop .j)) (c .atom-of .result)
+at c = let s = c .before .before .before .before .before .before in
+    let l = nth (s .args .literals .now) (c .before .before .before .loop .j) in
+    known-atom _ (rw (c .before .before .before .before .atoms-of .ensures) at
+    (told-atom l (record { sfits = c .before .atom-of-arg .given }) (c .atom-of .ensures)))
+    (known-at _ (s .args .literals .now) (s .pre .searchable .known) (c .before .before .before .loop .j) (omega arith))
 
 told-value : (c : tie.After-value-at Inv-loop μ-loop)
-    → c .value-at .result ≡ value-at (c .before .before .before .before .before .before .before .args .area .now) (atoms-of (c .before .before .before .before .before .before .before .args .area .now)) (atom (nth (c .before .before .before .before .before .before .before .args .literals .now) (c .before .before .before .before .loop .j)))
-told-value c = c .value-at .ensures ∙ ap₂ {A = ℕ} {B = ℕ} (value-at (c .before .before .before .before .before .before .before .args .area .now)) (c .before .before .before .before .before .atoms-of .ensures) (at (c .before) .is)
+    → let s = c .before .before .before .before .before .before .before in
+    c .value-at .result ≡ value-at (s .args .area .now) (atoms-of (s .args .area .now))
+    (atom (nth (s .args .literals .now) (c .before .before .before .before .loop .j)))
+told-value c = c .value-at .ensures ∙ ap₂ {A = ℕ} {B = ℕ} (value-at (c .before .before .before .before .before .before .before .args .area .now))
+    (c .before .before .before .before .before .atoms-of .ensures) (at (c .before) .is)
 
 atoms-of-requires : tie.Need-atoms-of-requires Inv-loop μ-loop
 atoms-of-requires c κs = let h = c .before .pre .searchable .usable .whole in omega (arith, h .enough, h .theory .atoms-low)
@@ -45,8 +51,11 @@ loop-holds c = (omega arith, c .before .before .pre .inside, λ lim h whole tota
 
 value-at-requires : tie.Need-value-at-requires Inv-loop μ-loop
 value-at-requires c κs = let h = c .before .before .before .before .before .before .pre .searchable .usable .whole in
-    let a = at (c) in
-    (omega (arith, c .before .before .before .before .atoms-of .ensures, h .theory .atoms-low), omega (arith, c .before .before .before .before .atoms-of .ensures, h .enough, h .theory .atoms-low, a .is, a .high))
+    let a = at (c) in (
+      omega (arith, c .before .before .before .before .atoms-of .ensures, h .theory .atoms-low),
+      omega
+          (arith, c .before .before .before .before .atoms-of .ensures, h .enough, h .theory .atoms-low, a .is, a .high),
+    )
 
 returns : tie.Need-returns Inv-loop μ-loop
 returns c = λ lim had whole. let i = c .before .before .before .before .before .loop .inv in
