@@ -3,7 +3,7 @@ use mathlib.Core.Logic.{⊎-elim}
 use Prim.Native.Nat.{_+_, _-_, _≤_}
 use native.Mathlib.Omega.{arith}
 use Rattle.area.specs.Layout.{record-at, merged-at}
-use Rattle.sentence.specs.Sentence.{Ready}
+use Rattle.extremes.specs.Stored.{Ready}
 use Rattle.origin.proofs.Naming.{Naming, none-named, all-named, cause-room, nothing-named, cause-named}
 use Rattle.origin.proofs.mark_causes.Statement.{statement}
 use Rattle.origin.proofs.mark_causes.Tie as tie
