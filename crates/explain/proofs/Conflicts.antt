@@ -46,7 +46,7 @@ module _ {lim : Limits} {w : List ℕ} {c : Counters} (fit : Fitting lim) (h : W
   asked = record { lim = lim; len = c .length-is; level = c .level-is; searchable = record { fitting = fit; whole = h; atoms = refl; sentences = refl } }
 
   pub comparable : Comparable w (atoms-of w) (sentences-of w) (record-at (atoms-of w) s)
-  comparable = record { sentence = ready-of asked s inside; extremes = extremes-of asked s inside }
+  comparable = record { sentence = ready-of asked inside; extremes = extremes-of asked inside refl refl }
 
   shown : Shows w (atoms-of w) (trail (rows-of w))
   shown =

@@ -76,7 +76,7 @@ module _ (lim : Limits) (w : List ℕ) where
           unfolding reply
           explain-listed h =
               rw (an-atom, at .stands inside, not-given, le-ltb room (length (explanation (scopes js) (rows-of w) l)) (omega (arith, size)))
-              (ap {A = List ℤ} listed explanation-is)
+              (ap {A = List ℤ} (λ x. reported (listed x)) explanation-is)
 
   -- ---- a conflict
 
@@ -121,4 +121,4 @@ module _ (lim : Limits) (w : List ℕ) where
       unfolding reply
       conflict-listed h =
           rw (a-number, conflicting, le-ltb room (length (conflict-explanation (scopes js) (rows-of w) k)) (omega (arith, all-size)))
-          (ap {A = List ℤ} listed all-is)
+          (ap {A = List ℤ} (λ x. reported (listed x)) all-is)
