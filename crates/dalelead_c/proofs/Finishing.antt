@@ -141,7 +141,7 @@ changes-searched w w′ c c′ ls p out out′ r a passed room front e =
 -- ---- the ways out of each function, from what its calls and tests have told
 
 module _ {w : List ℕ} {c : Counters} where
-  pub few-words : {x : Call} {out : List ℕ} {r : ℕ} → length out < 2 → ToldShort w c x 2 r → Changes w w c x next-counters out out r
+  pub few-words : {x : Step} {out : List ℕ} {r : ℕ} → length out < 2 → ToldShort w c x 2 r → Changes w w c x next-counters out out r
   few-words {x} {out} {r} h t = changes-short w c x next-counters out 2 r refl h t
 
   pub few-literal : {l : ℤ} {out : List ℕ} {r : ℕ} → SFits w64 l → length out < 2 → ToldShort w c (give (toZ w64 (ofZ w64 l))) 2 r
