@@ -38,5 +38,5 @@ abbrev Right : Printing → Type 0
 Right p = output (p .input) ≡ p .prints
 
 pub printings-right : Each Right printings
-unfolding output row-lines bound-lines heads-given decimal-within go reading rows-from all-entries more long-fault v-fault c-fault variable-fault expect begin between relation-at-least relation-equal finish place ends paired written-from sentences-in some both-signs all-refusals first-refusal sum-first turned-all freed-all put collect nonzero gather standing extreme first-due says numbered any speech run reply
+unfolding output row-lines bound-lines heads-given decimal-within go reading rows-from all-entries more long-fault v-fault c-fault variable-fault expect begin between relation-at-least relation-equal finish transition ends paired written-from sentences-in some both-signs all-refusals first-refusal sum-first turned-all freed-all put collect nonzero gather standing extreme first-due says numbered any speech run reply
 printings-right = (refl, (refl, (refl, (refl, (refl, (refl, tt))))))
