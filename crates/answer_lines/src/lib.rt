@@ -1,4 +1,6 @@
 // The lines in which a program prints what load, the calls that act and propagate answer, put on a page.
+#![tactic(auto)]
+
 ghost use Rattle.calls.specs.Calls.{done_returned};
 ghost use Rattle.pages.specs.Page.{Writes};
 ghost use Rattle.answer_lines.specs.Lines.{plan_line, done_line, propagated_line};

@@ -1,5 +1,7 @@
 // The work area: its layout, and when it is whole. Each function reads or writes one thing that the layout has, and its contract is the
 // layout's definition of it: who changes where a thing stands changes it here.
+#![tactic(auto)]
+
 ghost use Rattle.std.specs.Prelude.{◌≡◌, ℕ, ◌+◌, ◌-◌, ◌*◌, ◌≤◌, ◌<◌, ◌%◌, length, set};
 ghost use Rattle.decide.specs.Inner.Tells.{Tells};
 ghost use Rattle.area.specs.Layout.{word, atoms_of, sentences_of, length_of, level_of, value_at, literal_at, cause_at, place_at, row_at, head_at, tag_at, pending_at, kind_at, upper_at, bound_at, constant_at, least_at, greatest_at, before_at, written_at, merged_at, entry_at, entry_literal_at, weight_in, literal_in};

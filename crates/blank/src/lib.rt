@@ -1,4 +1,6 @@
 // Words set to 0: behind the merged entries of a sentence, and on the trail of a load.
+#![tactic(auto)]
+
 ghost use Rattle.std.specs.Prelude.{◌≤◌, length};
 ghost use Rattle.blank.specs.Inner.Blank.{Blanked};
 

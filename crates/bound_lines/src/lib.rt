@@ -1,4 +1,6 @@
 // The line of a sentence's bounds, put on a page.
+#![tactic(auto)]
+
 ghost use Rattle.calls.specs.Calls.{bounds_returned};
 ghost use Rattle.pages.specs.Page.{Writes};
 ghost use Rattle.answer_lines.specs.Lines.{bound, bounds_line};

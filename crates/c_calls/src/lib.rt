@@ -1,5 +1,7 @@
 // The calls that change the area, for C, under given limits. Each checks the area, asks for its refusal, then for the room that it needs,
 // and acts last.
+#![tactic(auto)]
+
 ghost use Rattle.types.specs.Limits.{Fitting};
 ghost use Rattle.book.specs.Table.{give, open_level, take_back, propagate, search};
 ghost use Rattle.whole.specs.Parts.{counters_with};

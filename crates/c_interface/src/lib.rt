@@ -1,4 +1,6 @@
 // What the functions for C share: one number for code and value, and numbers put at the front of lent words.
+#![tactic(auto)]
+
 ghost use Rattle.std.specs.Prelude.{◌≡◌, [], ◌∷◌, ◌<◌, ◌≤◌, length as type_size};
 ghost use Rattle.c_interface.specs.Interface.{packed, one_number, fronted};
 

@@ -1,4 +1,6 @@
 // The words that an area needs, and load, for C, under given limits.
+#![tactic(auto)]
+
 ghost use Rattle.std.specs.Prelude.{◌≡◌};
 ghost use Rattle.types.specs.Limits.{Fitting};
 ghost use Rattle.columns.specs.Columns.{seven_columns};

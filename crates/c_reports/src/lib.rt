@@ -1,4 +1,6 @@
 // The reports, for C, under given limits.
+#![tactic(auto)]
+
 ghost use Rattle.std.specs.Prelude.{◌≡◌, [], ◌∷◌, ◌≤◌, pos, length as type_size};
 ghost use Rattle.types.specs.Limits.{Fitting};
 ghost use Rattle.book.specs.Table.{bounds, explain, explain_conflict, origin, list_trail};

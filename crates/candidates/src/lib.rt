@@ -1,4 +1,6 @@
 // The literals of a search's list: that all are of atoms, the next open one, and one tried at a level of its own.
+#![tactic(auto)]
+
 ghost use Rattle.decide.specs.Inner.Tells.{Tells};
 ghost use Rattle.book.specs.Book as book;
 ghost use Rattle.area.specs.Whole.{Whole};

@@ -1,4 +1,6 @@
 // Where the literals of a sentence's atoms stand on the stored trail: what explanations and origins share.
+#![tactic(auto)]
+
 ghost use Rattle.std.specs.Prelude.{◌≤◌, get_or};
 ghost use Rattle.meaning.specs.Merge.{scope};
 ghost use Rattle.area.specs.Layout.{merged_at, rule_at};

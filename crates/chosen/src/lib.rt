@@ -1,4 +1,6 @@
 // The given literals of the marked positions: counted, and written into a lent list.
+#![tactic(auto)]
+
 ghost use Rattle.std.specs.Prelude.{◌≡◌, ◌+◌, ◌≤◌, length};
 ghost use Rattle.chosen.specs.Inner.Chosen.{Choosable, origin_marked, chosen_literals, in_front};
 

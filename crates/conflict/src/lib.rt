@@ -1,4 +1,6 @@
 // The explanation of a sentence in conflict, on a whole area.
+#![tactic(auto)]
+
 ghost use Rattle.types.specs.Limits.{Fitting};
 ghost use Rattle.book.specs.Table.{explain_conflict};
 ghost use Rattle.area.specs.Whole.{Whole};

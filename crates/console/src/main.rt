@@ -1,5 +1,7 @@
 // A console for planners: standard input line by line, and for each command one answer line on standard output, written before more is
 // read. What a line means stands in the crate `console_text`; every answer comes from the library.
+#![tactic(auto)]
+
 ghost use Rattle.std.specs.Prelude.{◌≤◌, length};
 
 use console_answers::{LIST, ROWS};
@@ -13,7 +15,7 @@ const LINE: usize = 65_536;
 // What is kept from byte to byte: the counters of the plan in the area; the number of lines that have ended; the bytes of the next one so
 // far, one more than the longest has for any longer one; and the plan that is being read: its atoms, the rules that it is to have, 0 where
 // no plan is being read, and the rules and entries that it has so far.
-#[derive(Drop)]
+#[derive(Clone, Copy)]
 struct Kept {
     counters: Counters,
     lines: u64,

@@ -1,4 +1,6 @@
 // The console's answers: each is put on a page that is never too short, and written on standard output.
+#![tactic(auto)]
+
 ghost use Rattle.std.specs.Prelude.{◌≤◌, length};
 
 use calls::{Bounds, Done, Listed};

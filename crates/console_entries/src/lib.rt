@@ -1,4 +1,6 @@
 // The entries of a rule's line: pairs of a weight and a literal, counted, and stored in columns.
+#![tactic(auto)]
+
 ghost use Rattle.std.specs.Prelude.{◌≡◌, ◌≤◌, length, drop, set};
 ghost use Rattle.std.proofs.lemmas.List.Edits.{sets};
 ghost use Rattle.console_words.specs.Words.{words};
@@ -8,7 +10,7 @@ ghost use Rattle.console_entries.specs.Inner.Cursor.{NextEntry};
 use console_words::{Next, Signed, Unsigned};
 
 // The next entry of a line: weight, literal and where it ends; that the next words are none; or that there is none.
-#[derive(Drop)]
+#[derive(Clone, Copy)]
 enum Taken {
     Entry(i64, i64, usize),
     Wrong,

@@ -1,25 +1,27 @@
 // The names in a console's line: of commands, of kinds and of sides.
+#![tactic(auto)]
+
 ghost use Rattle.std.specs.Prelude.{◌≡◌};
 ghost use Rattle.console_names.specs.Names.{later_name, name_of, kind_of, side_of};
 
 use console_words::Unsigned;
 
 // The commands of one word, those about a literal, and those about a level or a sentence.
-#[derive(Drop)]
+#[derive(Clone, Copy)]
 pub enum Bare {
     Open,
     Propagate,
     Trail,
 }
 
-#[derive(Drop)]
+#[derive(Clone, Copy)]
 pub enum OfLiteral {
     Give,
     Why,
     Origin,
 }
 
-#[derive(Drop)]
+#[derive(Clone, Copy)]
 pub enum OfNumber {
     Back,
     Bounds,
@@ -27,7 +29,7 @@ pub enum OfNumber {
 }
 
 // The first word of a command's line.
-#[derive(Drop)]
+#[derive(Clone, Copy)]
 pub enum Name {
     Plan,
     Rule,

@@ -1,4 +1,6 @@
 // The command that a console's line is.
+#![tactic(auto)]
+
 ghost use Rattle.std.specs.Prelude.{◌≡◌, ◌≤◌, length, drop};
 ghost use Rattle.console_words.specs.Words.{words};
 ghost use Rattle.console_text.specs.Inner.Rules.{FourWords};
@@ -8,7 +10,7 @@ use console_names::{Bare, Name, OfLiteral, OfNumber};
 use console_words::{Next, Signed, Unsigned};
 
 // A rule without its entries: how many it has.
-#[derive(Drop)]
+#[derive(Clone, Copy)]
 pub struct Rule {
     pub head: i64,
     pub kind: u64,
@@ -18,7 +20,7 @@ pub struct Rule {
 }
 
 // What a line is.
-#[derive(Drop)]
+#[derive(Clone, Copy)]
 pub enum Command {
     Empty,
     Comment,
@@ -31,7 +33,7 @@ pub enum Command {
 }
 
 // Where the first four words of a rule behind its name start and end.
-#[derive(Drop)]
+#[derive(Clone, Copy)]
 enum Four {
     Words(usize, usize, usize, usize, usize, usize, usize, usize),
     Missing,

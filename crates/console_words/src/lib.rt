@@ -1,24 +1,26 @@
 // The words of a console's line, and the numbers that they are.
+#![tactic(auto)]
+
 ghost use Rattle.std.specs.Prelude.{◌≡◌, false, ◌<◌, ◌≤◌, length, get_or};
 ghost use Rattle.console_words.specs.Words.{blank, same};
 ghost use Rattle.console_words.specs.Numbers.{unsigned_of, plus, minus, signed_of};
 ghost use Rattle.console_words.specs.Inner.Cursor.{Skipped, WordAt, NextWord};
 
 // A word read as a number without a sign, and as one that may have a sign.
-#[derive(Drop)]
+#[derive(Clone, Copy)]
 pub enum Unsigned {
     Natural(u64),
     NotNatural,
 }
 
-#[derive(Drop)]
+#[derive(Clone, Copy)]
 pub enum Signed {
     Integer(i64),
     NotInteger,
 }
 
 // The next word of a line: where it starts and ends.
-#[derive(Drop)]
+#[derive(Clone, Copy)]
 pub enum Next {
     Word(usize, usize),
     End,

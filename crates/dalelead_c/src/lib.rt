@@ -1,5 +1,7 @@
 // The library for searches written in C, C++ or Rust: functions on numbers and slices, at the limits of document 01, each over the function
 // under given limits. include/dalelead.h says what each asks, gives and refuses.
+#![tactic(auto)]
+
 ghost use Rattle.std.specs.Prelude.{◌≡◌};
 ghost use Rattle.types.specs.Limits.{document};
 ghost use Rattle.book.specs.Table.{give, open_level, take_back, propagate, search, bounds, explain, explain_conflict, origin, list_trail};

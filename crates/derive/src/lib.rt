@@ -1,4 +1,6 @@
 // The loop of propagate: one step after the other, until no sentence has anything to say or one is in conflict.
+#![tactic(auto)]
+
 ghost use Rattle.find.specs.Inner.Find.{Searchable};
 ghost use Rattle.derive.specs.Inner.Settle.{Settleable, Settled};
 ghost use Rattle.derive.specs.Inner.Stopped.{Stopped};
@@ -7,7 +9,7 @@ use find::Found;
 use types::Limits;
 
 // Where the loop stops: the number of the sentence in conflict, 0 where none is, and the trail's length.
-#[derive(Drop)]
+#[derive(Clone, Copy)]
 pub struct End {
     pub sentence: u64,
     pub length: usize,

@@ -1,4 +1,6 @@
 // The check of a stored sentence's merged entries: each is whole, no atom is met twice, and a product's weights keep to the bound.
+#![tactic(auto)]
+
 ghost use Rattle.std.specs.Prelude.{◌≡◌, ◌%◌};
 ghost use Rattle.area.specs.Layout.{tag_at};
 ghost use Rattle.entries_check.specs.Inner.Entries.{EntriesAsked, EntriesTold};

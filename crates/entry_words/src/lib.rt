@@ -1,4 +1,6 @@
 // Written entries as words: weights and literals, the turn of an entry in sums and counts, and the join of two weights of one literal.
+#![tactic(auto)]
+
 ghost use Rattle.std.specs.Prelude.{◌≡◌, ◌≤◌, nat_abs};
 ghost use Rattle.types.specs.Limits.{bound_limit, widest};
 ghost use Rattle.numbers.specs.Words.{bias, unbias, literal_word};
@@ -18,7 +20,7 @@ const COUNT: u64 = 2;
 const MAX: u64 = 3;
 
 // An entry as it is collected, and what it adds to the constant, as words.
-#[derive(Drop)]
+#[derive(Clone, Copy)]
 pub struct Turned {
     pub weight: u64,
     pub literal: u64,

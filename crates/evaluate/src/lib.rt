@@ -1,4 +1,6 @@
 // What one stored sentence says first, over the stored values, where its extremes are known.
+#![tactic(auto)]
+
 ghost use Rattle.std.specs.Prelude.{◌≡◌, true, ◌+◌, ◌≤◌, ◌<◌, length};
 ghost use Rattle.numbers.specs.Words.{half, top};
 ghost use Rattle.area.specs.Layout.{value_at, bound_at, entry_words};
@@ -15,7 +17,7 @@ use extremes::Kind;
 mod steps;
 
 // What a sentence says first: nothing, that it is in conflict, or a forced open literal, as a word.
-#[derive(Drop)]
+#[derive(Clone, Copy)]
 pub enum Said {
     Silent,
     Conflict,
@@ -24,7 +26,7 @@ pub enum Said {
 
 // Entries that are to be scanned, under a fixed head: the direction of its truth, the comparison's limit, the extreme in that direction,
 // and where the entries start.
-#[derive(Drop)]
+#[derive(Clone, Copy)]
 pub struct Body {
     pub kind: Kind,
     pub up: bool,
@@ -35,7 +37,7 @@ pub struct Body {
 }
 
 // What a sentence says before its entries are scanned: nothing, that it is in conflict, a forced literal of its head, or that the scan decides.
-#[derive(Drop)]
+#[derive(Clone, Copy)]
 pub enum Known {
     Silent,
     Conflict,

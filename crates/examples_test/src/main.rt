@@ -1,6 +1,8 @@
 // Document 01's examples, run: for each a line with its name, one for load, one for each literal given, the bounds of sentence 1, what
 // propagate answers, the trail's rows, and the bounds again. Then searches: on a ring of two with a list that is refused, at the highest level,
 // and on a ring of 256 sentences.
+#![tactic(auto)]
+
 use types::{Atom, Counters, Level, Sentence};
 
 // A bound: its number, or which infinite one it is.

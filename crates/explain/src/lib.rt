@@ -1,4 +1,6 @@
 // Explanations: of a derived literal by its reason, and of a sentence in conflict. They read the work area and change no word of it.
+#![tactic(auto)]
+
 ghost use Rattle.types.specs.Limits.{Fitting};
 ghost use Rattle.book.specs.Table.{explain, explain_conflict};
 ghost use Rattle.calls.specs.Calls.{counted, listed_returned, Reports};

@@ -1,4 +1,6 @@
 // The explanation of a derived literal by its reason, on a whole area.
+#![tactic(auto)]
+
 ghost use Rattle.types.specs.Limits.{Fitting};
 ghost use Rattle.book.specs.Table.{explain};
 ghost use Rattle.area.specs.Whole.{Whole};

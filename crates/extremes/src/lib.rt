@@ -1,4 +1,6 @@
 // The extremes of one stored sentence over the stored values: the kinds' steps on words, and the fold of both extremes in one loop.
+#![tactic(auto)]
+
 ghost use Rattle.std.specs.Prelude.{◌≡◌, ◌+◌, ◌-◌, ◌*◌, ◌≤◌, ◌<◌};
 ghost use Rattle.numbers.specs.Words.{half, top};
 ghost use Rattle.area.specs.Layout.{kind_of, value_at, entry_words};
@@ -9,14 +11,14 @@ ghost use Rattle.extremes.specs.Inner.Room.{Entries, Inside, EntryIs, Steps, Roo
 const HALF: u64 = 4_611_686_018_427_387_904;
 
 // The words of the least and the greatest value.
-#[derive(Drop)]
+#[derive(Clone, Copy)]
 pub struct Extremes {
     pub least: u64,
     pub greatest: u64,
 }
 
 // The two words of an entry, and the value of its atom.
-#[derive(Drop)]
+#[derive(Clone, Copy)]
 pub struct EntryWords {
     pub weight: u64,
     pub literal: u64,
@@ -24,7 +26,7 @@ pub struct EntryWords {
 }
 
 // The kinds, to go by cases.
-#[derive(Drop)]
+#[derive(Clone, Copy)]
 pub enum Kind {
     Sum,
     Product,

@@ -1,4 +1,6 @@
 // The lowest-numbered sentence that has something to say, and what.
+#![tactic(auto)]
+
 ghost use Rattle.std.specs.Prelude.{◌<◌};
 ghost use Rattle.find.specs.Inner.Find.{FoundIs};
 ghost use Rattle.find.specs.Inner.Asked.{FindReady, KnownAt};
@@ -7,7 +9,7 @@ use evaluate::Known;
 
 // Nothing; the sentence in conflict, counted from 0; or the sentence that forces, the literal's word, and where the sentence has its atom:
 // 0 for the head, j for merged entry j from 1.
-#[derive(Drop)]
+#[derive(Clone, Copy)]
 pub enum Found {
     Nothing,
     Conflict(usize),

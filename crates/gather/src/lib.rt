@@ -1,4 +1,6 @@
 // The first pass of the merge: each written entry is put onto the entry with its literal, or behind all others.
+#![tactic(auto)]
+
 ghost use Rattle.std.specs.Prelude.{◌≡◌, true, false, ◌≤◌, get_or, set};
 ghost use Rattle.area.specs.Layout.{kind_of};
 ghost use Rattle.columns.specs.Columns.{paired};
@@ -9,7 +11,7 @@ const HALF: u64 = 4_611_686_018_427_387_904;
 const COUNT: u64 = 2;
 
 // How many entries are left, and the word of the constant.
-#[derive(Drop)]
+#[derive(Clone, Copy)]
 pub struct Merged {
     pub count: usize,
     pub constant: u64,

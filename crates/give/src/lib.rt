@@ -1,4 +1,6 @@
 // A literal put on: given by a caller, or with a reason.
+#![tactic(auto)]
+
 ghost use Rattle.std.specs.Prelude.{◌≡◌, ℕ, ◌<◌, ◌≤◌, length};
 ghost use Rattle.types.specs.Limits.{widest, Fitting};
 ghost use Rattle.numbers.specs.Words.{literal_word};

@@ -1,4 +1,6 @@
 // The five kinds of aggregates. Each owns the word of its value over no weight and its range of weights, as constants.
+#![tactic(auto)]
+
 ghost use Rattle.std.specs.Prelude.{◌≡◌};
 ghost use Rattle.numbers.specs.Words.{word};
 ghost use Rattle.meaning.specs.Meaning.{sum, product, count, maximum, minimum, empty};
@@ -7,7 +9,7 @@ ghost use Rattle.kinds.specs.Kinds.{least_weight, greatest_weight};
 use types::Limits;
 
 // The value over no weight is 0.
-#[derive(Drop)]
+#[derive(Clone, Copy)]
 pub struct Sum;
 
 impl Sum {
@@ -37,7 +39,7 @@ impl Sum {
 }
 
 // The value over no weight is 1.
-#[derive(Drop)]
+#[derive(Clone, Copy)]
 pub struct Product;
 
 impl Product {
@@ -67,7 +69,7 @@ impl Product {
 }
 
 // The value over no weight is 0; every weight is 1.
-#[derive(Drop)]
+#[derive(Clone, Copy)]
 pub struct Count;
 
 impl Count {
@@ -97,7 +99,7 @@ impl Count {
 }
 
 // The value over no weight is below every number.
-#[derive(Drop)]
+#[derive(Clone, Copy)]
 pub struct Max;
 
 impl Max {
@@ -127,7 +129,7 @@ impl Max {
 }
 
 // The value over no weight is above every number.
-#[derive(Drop)]
+#[derive(Clone, Copy)]
 pub struct Min;
 
 impl Min {

@@ -1,5 +1,7 @@
 // The two forms of document 01 whose proofs walk the code by hand: load's entries lent as a list of records, and the counters lent to be
 // changed in the caller's hands. Each function is thin: a public call of `dalelead` does the work, and its contract is the contract here.
+#![tactic(auto)]
+
 ghost use Rattle.types.specs.Limits.{document};
 ghost use Rattle.columns.specs.Columns.{seven_columns};
 ghost use Rattle.load.specs.Load.{Loads};

@@ -1,4 +1,6 @@
 // A list of records as load's two columns of entries: one record copied into them, and load from the copy.
+#![tactic(auto)]
+
 ghost use Rattle.std.specs.Prelude.{◌≡◌, List, ◌<◌, set};
 ghost use Rattle.types.specs.Limits.{document};
 ghost use Rattle.columns.specs.Columns.{seven_columns};
@@ -10,7 +12,7 @@ use columns::Answer;
 use types::{Atom, Limits, Sentence};
 
 // A literal with its weight.
-#[derive(Drop)]
+#[derive(Clone, Copy)]
 pub struct Weighted {
     pub weight: i64,
     pub literal: i64,
@@ -20,7 +22,7 @@ pub struct Weighted {
 const MOST: usize = Limits::ENTRIES as usize;
 
 // The two columns of a list of records: how many records there are, and the first of them, as many as load takes.
-#[derive(Drop)]
+#[derive(Clone, Copy)]
 pub struct Copied {
     pub weights: [i64; MOST],
     pub literals: [i64; MOST],

@@ -1,6 +1,8 @@
 // Both forms that lend structs, run on document 01's example M4 (head 3, sum {(1,1),(2,2)} <= 1): loaded from a list of records, given and
 // propagated through counters in the caller's hands. A line for each call: its numbers, and the counters after it. Between them a literal
 // that is on the trail, and counters that are not the area's: both are refused, and the counters stay. Then loaded again and searched.
+#![tactic(auto)]
+
 ghost use Rattle.types.specs.Limits.{document};
 ghost use Rattle.columns.specs.Columns.{seven_columns};
 ghost use Rattle.load.specs.Load.{Loads};
@@ -44,7 +46,7 @@ fn give_held(area: &mut [u64], counters: Counters, literal: i64) -> calls::Done
 }
 
 // What propagate leaves: its outcome, and the counters after it.
-#[derive(Drop)]
+#[derive(Clone, Copy)]
 struct Held {
     outcome: Outcome,
     counters: Counters,
@@ -63,7 +65,7 @@ fn propagate_held(area: &mut [u64], counters: Counters) -> Held
 }
 
 // What the search loop leaves.
-#[derive(Drop)]
+#[derive(Clone, Copy)]
 struct SearchHeld {
     outcome: SearchOutcome,
     counters: Counters,

@@ -1,4 +1,6 @@
 // The calls by value, each answer in two parts: what `lent` hands back, and the counters that it stores.
+#![tactic(auto)]
+
 ghost use Rattle.types.specs.Limits.{document};
 ghost use Rattle.dalelead.specs.Public.{Gives, Opens, TakesBack, SearchesFor};
 ghost use Rattle.lent_told.specs.Told.{searched, PropagatesTo};
@@ -8,7 +10,7 @@ use propagate::Propagated;
 use types::{Counters, Level, Sentence};
 
 // Of propagate: 0 or the refusal; the sentence in conflict, 0 for none; and the number of literals derived.
-#[derive(Drop)]
+#[derive(Clone, Copy)]
 pub struct Outcome {
     pub code: u64,
     pub sentence: Sentence,
@@ -16,7 +18,7 @@ pub struct Outcome {
 }
 
 // An outcome with the counters after the call.
-#[derive(Drop)]
+#[derive(Clone, Copy)]
 pub struct Told {
     pub outcome: Outcome,
     pub counters: Counters,
@@ -65,7 +67,7 @@ pub fn propagate_told(area: &mut [u64], counters: Counters) -> Told
 }
 
 // Of the search loop: the same, over all turns, and the number of literals of the list that it went through.
-#[derive(Drop)]
+#[derive(Clone, Copy)]
 pub struct SearchOutcome {
     pub code: u64,
     pub sentence: Sentence,
@@ -73,7 +75,7 @@ pub struct SearchOutcome {
     pub gone: u64,
 }
 
-#[derive(Drop)]
+#[derive(Clone, Copy)]
 pub struct SearchTold {
     pub outcome: SearchOutcome,
     pub counters: Counters,

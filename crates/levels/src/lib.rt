@@ -1,4 +1,6 @@
 // Steps of a caller on levels: open one more, take back to one.
+#![tactic(auto)]
+
 ghost use Rattle.std.specs.Prelude.{◌≡◌, List, ℕ};
 ghost use Rattle.types.specs.Limits.{Fitting};
 ghost use Rattle.book.specs.Table.{open_level, take_back};

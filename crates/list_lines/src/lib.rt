@@ -1,4 +1,6 @@
 // The line of a list that a call wrote, put on a page.
+#![tactic(auto)]
+
 ghost use Rattle.std.specs.Prelude.{◌≤◌, length, take, ◌≡◌};
 ghost use Rattle.calls.specs.Calls.{listed_returned};
 ghost use Rattle.pages.specs.Page.{Writes};

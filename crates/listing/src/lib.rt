@@ -1,6 +1,8 @@
 // The OPB program of document 01 on a lent page: a text is read and loaded, its heads are given in order at level 0, propagate is called,
 // and the answer, the trail and the bounds of each sentence are put on the page. Load leaves the area whole, and no call after it checks
 // the area again.
+#![tactic(auto)]
+
 ghost use Rattle.std.specs.Prelude.{◌+◌, ◌≤◌};
 ghost use Rattle.types.specs.Limits.{document};
 ghost use Rattle.calls.specs.Calls.{area_state};

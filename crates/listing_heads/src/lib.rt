@@ -1,4 +1,6 @@
 // The heads of a text's constraints, given on the whole area that load leaves; no give checks it again.
+#![tactic(auto)]
+
 ghost use Rattle.listing_heads.specs.Heads.{HeadsAsked, HeadsGiven};
 
 use types::{Counters, Level};

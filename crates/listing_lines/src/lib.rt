@@ -1,4 +1,6 @@
 // The lines in which the OPB program lists a whole area: the trail's rows and the sentences' bounds, on a lent page.
+#![tactic(auto)]
+
 ghost use Rattle.std.specs.Prelude.{◌*◌, ◌≤◌, length};
 ghost use Rattle.types.specs.Limits.{document, widest};
 ghost use Rattle.book.specs.Rows.{a_row};

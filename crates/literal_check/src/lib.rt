@@ -1,5 +1,7 @@
 // A written sentence's literals, looked at before a word is written: that each is of an atom, that none is of the head's, and that no atom
 // has both signs where the kind forbids it. Load's refusals 4, 6 and 7.
+#![tactic(auto)]
+
 ghost use Rattle.std.specs.Prelude.{◌≡◌, false, not, ◌||◌, ◌&&◌, ◌+◌};
 ghost use Rattle.types.specs.Limits.{widest};
 ghost use Rattle.meaning.specs.Meaning.{mixes};

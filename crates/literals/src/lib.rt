@@ -1,5 +1,7 @@
 // Literals on the way between the caller's signed numbers and the words of the area: the atom of a caller's literal, if it has one, and the
 // literal of a stored word.
+#![tactic(auto)]
+
 ghost use Rattle.std.specs.Prelude.{◌≡◌, neg_ℤ};
 ghost use Rattle.numbers.specs.Words.{literal_of};
 ghost use Rattle.literals.specs.Inner.Literals.{AtomOf};

@@ -1,4 +1,6 @@
 // Load: the lent columns are checked, and then the area is written and each sentence gets its bounds over the empty trail.
+#![tactic(auto)]
+
 ghost use Rattle.types.specs.Limits.{document, Fitting};
 ghost use Rattle.columns.specs.Columns.{seven_columns};
 ghost use Rattle.load.specs.Load.{Loads};

@@ -1,5 +1,7 @@
 // Load's refusals: the lent columns are checked before a word is written, by document 01's table: the columns' shape (1), the area's length
 // (2), then each sentence (3 to 8).
+#![tactic(auto)]
+
 ghost use Rattle.std.specs.Prelude.{◌≡◌};
 ghost use Rattle.types.specs.Limits.{Fitting};
 ghost use Rattle.columns.specs.Columns.{seven_columns, all_written};

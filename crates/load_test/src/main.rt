@@ -1,5 +1,7 @@
 // Each refusal of load, and the case that just misses it: a line with the code and the sentence for each load. Then the words that a load
 // of document 01's example M4 leaves, one to a line, with two words past the need.
+#![tactic(auto)]
+
 use columns::Answer;
 use types::Atom;
 

@@ -1,4 +1,6 @@
 // Where a caller's literal stands on the trail of the area, or the refusal that it meets.
+#![tactic(auto)]
+
 ghost use Rattle.std.specs.Prelude.{◌≡◌};
 ghost use Rattle.literals.specs.Inner.Literals.{IsAtom};
 ghost use Rattle.area.specs.Layout.{atoms_of, length_of, sign};
@@ -6,7 +8,7 @@ ghost use Rattle.causes.specs.Inner.Causes.{TrailAsked, PositionIs};
 ghost use Rattle.located.specs.Inner.Located.{LocatedIs};
 
 // 0 and the literal's position, or a refusal.
-#[derive(Drop)]
+#[derive(Clone, Copy)]
 pub struct Located {
     pub code: u64,
     pub position: usize,

@@ -1,5 +1,7 @@
 // Positions of the trail are marked, from a literal's own down: a cause stands before what it is a cause of, so that one pass over the
 // positions, each handled once, marks all that the literal rests on.
+#![tactic(auto)]
+
 ghost use Rattle.std.specs.Prelude.{◌<◌};
 ghost use Rattle.marking.specs.Inner.Marks.{Markable, CauseNamed, MarkStep, Reached, Adds};
 

@@ -1,5 +1,7 @@
 // The merge of a written set into a part of the work area, in three passes: the entries are gathered; in sums and counts those of weight 0
 // are left out; the words behind are set to 0.
+#![tactic(auto)]
+
 ghost use Rattle.std.specs.Prelude.{◌*◌, ◌≤◌, length};
 ghost use Rattle.types.specs.Limits.{widest};
 ghost use Rattle.gather.specs.Inner.Gather.{Mergeable};

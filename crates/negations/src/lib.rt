@@ -1,4 +1,6 @@
 // The negated causes of a stored sentence: its atoms' literals among the first rows of the trail, counted, and written into a lent list.
+#![tactic(auto)]
+
 ghost use Rattle.std.specs.Prelude.{◌≡◌, ◌+◌, ◌≤◌, length};
 ghost use Rattle.causes.specs.Inner.Causes.{CausesAsked};
 ghost use Rattle.negations.specs.Inner.Negations.{negations, overwritten};

@@ -1,1 +1,2 @@
 // Integers, extended values and biased words: definitions and laws only.
+#![tactic(auto)]

@@ -1,4 +1,6 @@
 // The grammar of OPB texts, as document 01 lays it down: an automaton that goes through a text byte by byte.
+#![tactic(auto)]
+
 ghost use Rattle.std.specs.Prelude.{◌≡◌};
 ghost use Rattle.opb_grammar.specs.Grammar as grammar;
 ghost use Rattle.opb_bytes.specs.Inner.States.{StateSound};

@@ -1,4 +1,6 @@
 // The classes of bytes, by a table.
+#![tactic(auto)]
+
 ghost use Rattle.std.specs.Prelude.{◌≡◌};
 ghost use Rattle.opb_classes.specs.Bytes.{class_of};
 

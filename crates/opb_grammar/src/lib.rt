@@ -1,11 +1,13 @@
 // What has been read of an OPB text: the state between two bytes, its changes, and the faults of a number that has ended.
+#![tactic(auto)]
+
 ghost use Rattle.std.specs.Prelude.{◌≡◌, ◌+◌, ◌*◌, ◌-◌, ◌<◌, min, leb};
 ghost use Rattle.opb_grammar.specs.Grammar as grammar;
 
 use types::Limits;
 
 // What has been read, and so what may come next.
-#[derive(Drop)]
+#[derive(Clone, Copy)]
 pub enum Phase {
     // the first line: `* #variable= `, V, ` #constraint= `, C, and its end
     Opening,
@@ -36,7 +38,7 @@ pub enum Phase {
 }
 
 // A number as far as it has been read: its size, told up to 10^18, its digits, told up to 19, and whether a minus stands before it.
-#[derive(Drop)]
+#[derive(Clone, Copy)]
 pub struct Number {
     pub size: u64,
     pub digits: u64,
@@ -44,21 +46,21 @@ pub struct Number {
 }
 
 // V and C.
-#[derive(Drop)]
+#[derive(Clone, Copy)]
 pub struct Sizes {
     pub variables: u64,
     pub constraints: u64,
 }
 
 // The terms of the constraint that is being read, and the entries and sentences so far, those of `=` twice.
-#[derive(Drop)]
+#[derive(Clone, Copy)]
 pub struct Counts {
     pub terms: u64,
     pub entries: u64,
     pub sentences: u64,
 }
 
-#[derive(Drop)]
+#[derive(Clone, Copy)]
 pub struct State {
     pub phase: Phase,
     // bytes of the first line's fixed text that have been read
@@ -73,7 +75,7 @@ pub struct State {
 }
 
 // What a byte makes of a state: the text goes on, where a term or a whole constraint may just have been passed, or it is refused.
-#[derive(Drop)]
+#[derive(Clone, Copy)]
 pub enum Next {
     More(State),
     Term(State),

@@ -1,4 +1,6 @@
 // What a byte makes of a state of an OPB text, in each phase that looks at more than one piece of the grammar.
+#![tactic(auto)]
+
 ghost use Rattle.std.specs.Prelude.{◌≡◌, ◌≤◌};
 ghost use Rattle.opb_grammar.specs.Grammar.{transition};
 

@@ -1,4 +1,6 @@
 // The pieces of an OPB text's grammar: fixed texts, numbers, terms, relations, and what ends a constraint.
+#![tactic(auto)]
+
 ghost use Rattle.std.specs.Prelude.{◌≡◌, ◌<◌, ◌≤◌, length};
 ghost use Rattle.opb_grammar.specs.Grammar as grammar;
 

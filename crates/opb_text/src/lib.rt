@@ -1,4 +1,6 @@
 // OPB text into load's columns, as document 01 lays it down: the automaton of `opb_bytes` first decides the whole text, and then fills.
+#![tactic(auto)]
+
 ghost use Rattle.std.specs.Prelude.{◌≡◌, min};
 ghost use Rattle.columns.specs.Columns.{seven_columns};
 ghost use Rattle.opb_text.specs.Text.{reading, read_of, result_of, nothing_read, Reads};
@@ -7,7 +9,7 @@ ghost use Rattle.opb_text.specs.Inner.States.{answer_at, Decided};
 use opb_grammar::{Next, State};
 
 // The answer: 0 and the sizes of what stands in the columns, or the refusal with its value.
-#[derive(Drop)]
+#[derive(Clone, Copy)]
 pub struct Read {
     pub code: u64,
     pub value: u64,

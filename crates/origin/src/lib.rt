@@ -1,4 +1,6 @@
 // Origins: the given literals that a literal of the trail rests on, as a report.
+#![tactic(auto)]
+
 ghost use Rattle.types.specs.Limits.{Fitting};
 ghost use Rattle.book.specs.Table.{origin};
 ghost use Rattle.area.specs.Whole.{Whole};

@@ -1,4 +1,6 @@
 // The origins of the literal at a position of a whole area's trail: what it rests on is marked, and the given literals among it are listed.
+#![tactic(auto)]
+
 ghost use Rattle.origins.specs.Inner.Origins.{OriginsAsked, Blank, origins_at, Choice, Handed};
 
 use calls::Listed;

@@ -1,4 +1,6 @@
 // Texts put together on a page: each function goes on behind what the page holds, and a page that is full stays full.
+#![tactic(auto)]
+
 ghost use Rattle.pages.specs.Page.{Writes};
 ghost use Rattle.pages.specs.Lines.{named, number_line, pair_line};
 ghost use Rattle.numbers.specs.Text.{decimal, signed_decimal};

@@ -1,4 +1,6 @@
 // Propagate: the loop of steps on a whole area, and its answer.
+#![tactic(auto)]
+
 ghost use Rattle.std.specs.Prelude.{◌≡◌};
 ghost use Rattle.types.specs.Limits.{Fitting};
 ghost use Rattle.book.specs.Table.{propagate};
@@ -11,7 +13,7 @@ use types::{Counters, Limits, Sentence};
 
 // The area is not whole; still, with the number of literals put on; or a conflict, with its sentence and that number. Each with the
 // counters after the call.
-#[derive(Drop)]
+#[derive(Clone, Copy)]
 pub enum Propagated {
     Broken(Counters),
     Still(u64, Counters),

@@ -1,4 +1,6 @@
 // The check of the trail's reasons: each is 0, or a sentence that has the row's atom at the stored place.
+#![tactic(auto)]
+
 ghost use Rattle.std.specs.Prelude.{ℕ, ◌<◌, ◌≤◌};
 ghost use Rattle.decide.specs.Inner.Tells.{Tells};
 ghost use Rattle.area.specs.Whole.{Reasoned};

@@ -1,4 +1,6 @@
 // Renewing the stored bounds after values changed.
+#![tactic(auto)]
+
 ghost use Rattle.std.specs.Prelude.{not};
 ghost use Rattle.types.specs.declared.Limits.{Limits};
 ghost use Rattle.decide.specs.Inner.Tells.{Tells};

@@ -1,4 +1,6 @@
 // Reports: the bounds of a sentence, and the trail as a list. They read the work area and change no word of it.
+#![tactic(auto)]
+
 ghost use Rattle.std.specs.Prelude.{◌≡◌, [], ◌∷◌, ◌++◌, ◌+◌, ◌*◌, ◌<◌, ◌≤◌, pos, length, drop};
 ghost use Rattle.std.proofs.lemmas.List.Edits.{sets};
 ghost use Rattle.types.specs.Limits.{Fitting};
@@ -18,7 +20,7 @@ use types::{Counters, Limits, Sentence};
 const TOP: u64 = 9_223_372_036_854_775_808;
 
 // A value as a report gives it: 0 and a number, or 1 below and 2 above every number, with number 0.
-#[derive(Drop)]
+#[derive(Clone, Copy)]
 struct Value {
     mark: u64,
     number: i64,

@@ -1,5 +1,7 @@
 // Explanations, conflicts and origins, run: M4, M5 and M12 of document 01, a ring of 256 sentences, and a chain of 85 diamonds, which has
 // 2^85 paths from its end to its start. The last two answer at once.
+#![tactic(auto)]
+
 use calls::Listed;
 use types::{Atom, Counters, Sentence};
 

@@ -1,4 +1,6 @@
 // The search loop over a lent list of literals to try.
+#![tactic(auto)]
+
 ghost use Rattle.std.specs.Prelude.{◌≡◌, ◌≤◌, length};
 ghost use Rattle.types.specs.Limits.{Fitting};
 ghost use Rattle.book.specs.Table.{search};
@@ -13,7 +15,7 @@ use types::{Counters, Limits, Sentence};
 
 // 0 or the refusal; the sentence in conflict, 0 for none; the literals derived, over all turns; the literals of the list gone through; the
 // counters after it.
-#[derive(Drop)]
+#[derive(Clone, Copy)]
 pub struct Searched {
     pub code: u64,
     pub sentence: Sentence,

@@ -1,4 +1,6 @@
 // The refusals of one written sentence (3 to 8), in the table's order. Each test looks at an entry once.
+#![tactic(auto)]
+
 ghost use Rattle.std.specs.Prelude.{◌≡◌, ◌≤◌};
 ghost use Rattle.types.specs.Limits.{widest};
 ghost use Rattle.columns.specs.Indexed.{unknown_shape, column_code};

@@ -1,4 +1,6 @@
 // The shape of load's columns (refusal 1): the limits, the columns' lengths, and the counts of the entries, which add up to all.
+#![tactic(auto)]
+
 ghost use Rattle.std.specs.Prelude.{◌≡◌, eqb, length};
 ghost use Rattle.decide.specs.Below.{sum_first};
 ghost use Rattle.columns.specs.Indexed.{above_limits, unequal_sizes};

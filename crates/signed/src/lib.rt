@@ -1,4 +1,6 @@
 // The size and the sign of a signed number, for every number: the least has no case of its own.
+#![tactic(auto)]
+
 ghost use Rattle.std.specs.Prelude.{◌≡◌, nat_abs};
 ghost use Rattle.signed.specs.Inner.Sign.{is_negative};
 

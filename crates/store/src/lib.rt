@@ -1,4 +1,6 @@
 // The columns of an accepted load are written into the area: an empty trail, then each sentence's record with its merged entries.
+#![tactic(auto)]
+
 ghost use Rattle.std.specs.Prelude.{◌≤◌, length};
 ghost use Rattle.columns.specs.Columns.{seven_columns};
 ghost use Rattle.store.specs.Inner.Stored.{Cleared, Admitted, AllStored};

@@ -1,4 +1,6 @@
 // One written sentence stored: its merged entries, and its record. It is marked as pending, and its bounds are left open.
+#![tactic(auto)]
+
 ghost use Rattle.std.specs.Prelude.{◌+◌, ◌≤◌, length};
 ghost use Rattle.columns.specs.Columns.{written_as};
 ghost use Rattle.stored_sentence.specs.Inner.Sentences.{MergeAsked, MergedAt, FourPut, Storable, Stored};

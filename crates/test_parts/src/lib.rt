@@ -1,4 +1,6 @@
 // What the test programs share: what is given and propagated, printed in lines, and rings of sentences.
+#![tactic(auto)]
+
 use propagate::Propagated;
 use types::{Atom, Counters, Level};
 

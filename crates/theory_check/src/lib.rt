@@ -1,4 +1,6 @@
 // The check of the stored theory: places, and the words of one sentence.
+#![tactic(auto)]
+
 ghost use Rattle.std.specs.Prelude.{◌+◌, ◌*◌, ◌≤◌, length};
 ghost use Rattle.types.specs.Limits.{widest, Fitting};
 ghost use Rattle.decide.specs.Inner.Tells.{Tells};

@@ -1,4 +1,6 @@
 // The steps on the trail's words.
+#![tactic(auto)]
+
 ghost use Rattle.std.specs.Prelude.{◌≡◌, ◌<◌, ◌≤◌, length, set};
 ghost use Rattle.area.specs.Layout.{sentences_of, level_of};
 ghost use Rattle.trail.specs.Inner.Step.{put_on, Puttable, Cut};

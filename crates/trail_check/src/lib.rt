@@ -1,4 +1,6 @@
 // The check of word 0 and of the trail's words.
+#![tactic(auto)]
+
 ghost use Rattle.std.specs.Prelude.{ℕ, ◌*◌, ◌<◌, ◌≤◌, length};
 ghost use Rattle.types.specs.Limits.{widest};
 ghost use Rattle.decide.specs.Inner.Tells.{Tells};

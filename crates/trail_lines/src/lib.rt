@@ -1,4 +1,6 @@
 // The lines of the trail that a call listed, put on a page.
+#![tactic(auto)]
+
 ghost use Rattle.std.specs.Prelude.{◌≤◌, ◌/◌, length};
 ghost use Rattle.calls.specs.Calls.{listed_returned};
 ghost use Rattle.pages.specs.Page.{Writes};

@@ -1,28 +1,30 @@
 // The numbers that calls speak of, each a type of its own, so that one given for another is a type error; and the limits.
+#![tactic(auto)]
+
 ghost use Rattle.std.specs.Prelude.{◌≡◌};
 ghost use Rattle.types.specs.Limits.{document};
 
 // An atom, 1 to N; as a parameter of load, N itself.
-#[derive(Drop)]
+#[derive(Clone, Copy)]
 pub struct Atom(pub u64);
 
 // A sentence, counted from 1; 0 where there is none.
-#[derive(Drop)]
+#[derive(Clone, Copy)]
 pub struct Sentence(pub u64);
 
 // A level of the trail.
-#[derive(Drop)]
+#[derive(Clone, Copy)]
 pub struct Level(pub u64);
 
 // The trail's counters: its length, and the current level.
-#[derive(Drop)]
+#[derive(Clone, Copy)]
 pub struct Counters {
     pub length: u64,
     pub level: Level,
 }
 
 // The limits of a caller: atoms, sentences, written entries, written entries in one sentence, and the highest level.
-#[derive(Drop)]
+#[derive(Clone, Copy)]
 pub struct Limits {
     pub atoms: u64,
     pub sentences: u64,

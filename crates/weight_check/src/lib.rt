@@ -1,5 +1,7 @@
 // A written sentence's weights and its bound, looked at before a word is written: that each is in its range, and that the product of all
 // weights, which merging keeps, is. Load's refusals 5 and 8.
+#![tactic(auto)]
+
 ghost use Rattle.std.specs.Prelude.{◌≡◌, false, not, ◌||◌};
 ghost use Rattle.kinds.specs.Kinds.{least_weight, greatest_weight, between};
 ghost use Rattle.area.specs.Layout.{kind_of};

@@ -1,4 +1,6 @@
 // The check of wholeness: word 0, the trail, the places of the sentences, each sentence with its bounds and what it says, the reasons.
+#![tactic(auto)]
+
 ghost use Rattle.types.specs.Limits.{Fitting};
 ghost use Rattle.decide.specs.Inner.Tells.{Tells};
 ghost use Rattle.area.specs.Whole.{Whole};

@@ -1,4 +1,6 @@
 // The check of a stored sentence's single words: its constant, and the weight and literal of an entry. It knows no list of words.
+#![tactic(auto)]
+
 ghost use Rattle.std.specs.Prelude.{◌≡◌, ◌≤◌, ◌<◌};
 ghost use Rattle.types.specs.Limits.{bound_limit, widest};
 ghost use Rattle.decide.specs.Inner.Tells.{Tells};
