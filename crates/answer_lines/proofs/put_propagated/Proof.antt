@@ -16,6 +16,6 @@ pub put_propagated_spec : {M : Type 1} → statement M
 put_propagated_spec = tie.close (tie.spec
     (λ c. search rules) (λ c. search rules) (λ c κs. search rules) (λ c. search rules) (λ c. search rules) (λ c κs. search rules) (λ c. search rules)
     (λ c. search rules) (λ c κs. search rules) (λ c. search rules)
-    (λ c. line_of c.before.before.before.before.before.enum_told.given.1 c.before.before.put_pair.ensures) (λ c. search rules)
-    (λ c. line_of c.before.before.before.before.before.before.answer.given.1 c.before.before.put_line.ensures) (λ c. search rules)
-    (λ c. line_of c.before.before.before.before.before.before.answer2.given.1 c.before.before.put-pair2.ensures))
+    (λ c. line_of c.before.before.before.before.before.enum_told-1.given.1 c.before.before.put_pair.ensures) (λ c. search rules)
+    (λ c. line_of c.before.before.before.before.before.before.answer-1.given.1 c.before.before.put_line.ensures) (λ c. search rules)
+    (λ c. line_of c.before.before.before.before.before.before.answer-in-Conflict-1.given.1 c.before.before.put_pair-in-Conflict.ensures))

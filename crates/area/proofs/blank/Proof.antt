@@ -10,20 +10,20 @@ use Rattle.area.specs.Layout.{word}
 use Rattle.area.proofs.blank.Statement.{statement}
 use Rattle.area.proofs.blank.Tie as tie
 
-abbrev invariant_loop : tie.invariant_loop
-invariant_loop area from to i₀ i = (from ≤ i) × ((j : ℕ) → from ≤ j → j < i → word area j ≡ 0)
+abbrev invariant-loop-i : tie.invariant-loop-i
+invariant-loop-i area from to i₀ i = (from ≤ i) × ((j : ℕ) → from ≤ j → j < i → word area j ≡ 0)
 
-abbrev decreases_loop : tie.decreases_loop
-decreases_loop area from to i₀ i = to - i
+abbrev decreases-loop-i : tie.decreases-loop-i
+decreases-loop-i area from to i₀ i = to - i
 
 pub blank_spec : {M : Type 1} → statement M
 blank_spec = tie.close (tie.spec
-    invariant_loop decreases_loop (λ c. (omega arith, λ j a b. absurd (omega arith))) (λ c. search rules) (λ c. search rules)
-    (λ c. told_no (λ h. c.if1.true (h _ c.before.before.before.loop.invariant.0 (omega arith)))) (λ c. search rules) (λ c. search rules)
+    invariant-loop-i decreases-loop-i (λ c. (omega arith, λ j a b. absurd (omega arith))) (λ c. search rules) (λ c. search rules)
+    (λ c. told_no (λ h. c.if-area-i-ne0.true (h _ c.before.before.before.loop-i.invariant.0 (omega arith)))) (λ c. search rules) (λ c. search rules)
     (λ c. (
       omega arith,
       λ j a b. ⊎_elim
-          (λ (e : j ≡ c.before.before.before.loop.i). ap {A = ℕ} (word c.before.before.before.before.args.area.now) e ∙ c.if1.false)
-          (λ (m : j < c.before.before.before.loop.i). c.before.before.before.loop.invariant.1 j a m) (eq-or-lt_of_le (omega arith)),
+          (λ (e : j ≡ c.before.before.before.loop-i.i). ap {A = ℕ} (word c.before.before.before.before.args.area.now) e ∙ c.if-area-i-ne0.false)
+          (λ (m : j < c.before.before.before.loop-i.i). c.before.before.before.loop-i.invariant.1 j a m) (eq-or-lt_of_le (omega arith)),
     ))
-    (λ c. told_yes (λ j a b. c.before.loop.invariant.1 j a (omega arith))))
+    (λ c. told_yes (λ j a b. c.before.loop-i.invariant.1 j a (omega arith))))

@@ -8,17 +8,17 @@ use Rattle.blank.proofs.Blanking.{blank_none, blank_next}
 use Rattle.blank.proofs.blank_words.Statement.{statement}
 use Rattle.blank.proofs.blank_words.Tie as tie
 
-abbrev invariant_loop : tie.invariant_loop
-invariant_loop words₀ from to i₀ words i = (from ≤ i) × (i ≤ to) × Blanked words₀ words from i
+abbrev invariant-loop-i : tie.invariant-loop-i
+invariant-loop-i words₀ from to i₀ words i = (from ≤ i) × (i ≤ to) × Blanked words₀ words from i
 
-abbrev decreases_loop : tie.decreases_loop
-decreases_loop words₀ from to i₀ words i = to - i
+abbrev decreases-loop-i : tie.decreases-loop-i
+decreases-loop-i words₀ from to i₀ words i = to - i
 
 pub blank_words_spec : {M : Type 1} → statement M
 blank_words_spec = tie.close (tie.spec
-    invariant_loop decreases_loop (λ c. (omega arith, omega arith, blank_none)) (λ c. search rules) (λ c. omega (arith, c.before.loop.invariant.2.size))
+    invariant-loop-i decreases-loop-i (λ c. (omega arith, omega arith, blank_none)) (λ c. search rules) (λ c. omega (arith, c.before.loop-i.invariant.2.size))
     (λ c. search rules) (λ c. search rules)
-    (λ c. (omega arith, omega arith, blank_next c.before.loop.invariant.2 c.before.loop.invariant.0 (omega arith)))
-    (λ c. c.before.loop.invariant.2.size)
-    (λ c. let e : c.before.loop.i ≡ c.before.before.args.to = omega arith in
-    subst (Blanked c.before.before.args.words.now c.before.loop.words c.before.before.args.from) e c.before.loop.invariant.2))
+    (λ c. (omega arith, omega arith, blank_next c.before.loop-i.invariant.2 c.before.loop-i.invariant.0 (omega arith)))
+    (λ c. c.before.loop-i.invariant.2.size)
+    (λ c. let e : c.before.loop-i.i ≡ c.before.before.args.to = omega arith in
+    subst (Blanked c.before.before.args.words.now c.before.loop-i.words c.before.before.args.from) e c.before.loop-i.invariant.2))

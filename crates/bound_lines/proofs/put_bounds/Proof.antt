@@ -6,18 +6,18 @@ use borrow.Author.Rules.{rules}
 use Rattle.bound_lines.proofs.put_bounds.Statement.{statement}
 use Rattle.bound_lines.proofs.put_bounds.Tie as tie
 
-returns_2 : tie.Need-returns-2
+returns_2 : tie.Need-returns
 returns_2 c = let a = c.before.before.before.before.before.before.before.before.before.before.before.before.before.before.before.before.before.before.before.before.before.before.before.before.before.before.before.before.args.answer in
-    let first = then c.before.before.before.before.before.before.before.before.before.before.before.before.before.before.before.before.before.before.before.before.before.before.put_bytes.ensures
-    (bound_put a.least_mark a.least (search rules) c.before.before.before.before.before.before.before.before.before.before.before.before.before.before.before.before.before.put_bound.ensures) in
-    rw (eq-eqb a.code 0 c.before.before.before.before.before.before.before.before.before.before.before.before.before.before.before.before.before.before.before.before.before.before.before.before.before.if1.false)
-    (then (then (then first c.before.before.before.before.before.before.before.before.before.before.before.before.put-bytes2.ensures) (bound_put a.greatest_mark a.greatest (search rules)
-    c.before.before.before.before.before.before.before.put-bound2.ensures)) c.before.before.put-bytes3.ensures)
+    let first = then c.before.before.before.before.before.before.before.before.before.before.before.before.before.before.before.before.before.before.before.before.before.before.put_bytes-word.ensures
+    (bound_put a.least_mark a.least (search rules) c.before.before.before.before.before.before.before.before.before.before.before.before.before.before.before.before.before.put_bound-least.ensures) in
+    rw (eq-eqb a.code 0 c.before.before.before.before.before.before.before.before.before.before.before.before.before.before.before.before.before.before.before.before.before.before.before.before.before.if-answer-ne0.false)
+    (then (then (then first c.before.before.before.before.before.before.before.before.before.before.before.before.put_bytes-gap.ensures) (bound_put a.greatest_mark a.greatest (search rules)
+    c.before.before.before.before.before.before.before.put_bound-greatest.ensures)) c.before.before.put_bytes.ensures)
 
 pub put_bounds_spec : {M : Type 1} → statement M
 put_bounds_spec = tie.close (tie.spec
     (λ c. search rules) (λ c κs. search rules) (λ c. search rules)
     (λ c. rw (ne_eqb c.before.before.before.before.before.before.before.before.args.answer.code 0
-    c.before.before.before.before.before.if1.true) c.before.before.put_pair.ensures)
+    c.before.before.before.before.before.if-answer-ne0.true) c.before.before.put_pair.ensures)
     (λ c. search rules) (λ c κs. search rules) (λ c κs. search rules) (λ c. search rules) (λ c κs. search rules) (λ c κs. search rules)
     (λ c. search rules) (λ c κs. search rules) (λ c. search rules) returns_2)

@@ -12,27 +12,27 @@ use borrow.Author.Rules.{rules}
 use Rattle.c_calls.proofs.open.Statement.{statement}
 use Rattle.c_calls.proofs.open.Tie as tie
 
-usable : (c : tie.Else1) → let s = c.before.before.before.before.before in Usable s.args.lim s.args.area.now (counters_with s.args.length s.args.level)
-usable c = record { fitting = c.before.before.before.before.before.requires; whole = granted c.before.is_whole.ensures c.if1.false }
+usable : (c : tie.Else-not-is_whole) → let s = c.before.before.before.before.before in Usable s.args.lim s.args.area.now (counters_with s.args.length s.args.level)
+usable c = record { fitting = c.before.before.before.before.before.requires; whole = granted c.before.is_whole.ensures c.if-not-is_whole.false }
 
-code : (c : tie.After-open-refusal) → let s = c.before.before.before.before.before.before in
-    c.open_refusal.result ≡ refusal_code s.args.lim s.args.area.now open_level
-code c = let s = c.before.before.before.before.before.before in c.open_refusal.ensures s.args.area.now (usable c.before).whole.level_is
+code : (c : tie.After-open_refusal-code) → let s = c.before.before.before.before.before.before in
+    c.open_refusal-code.result ≡ refusal_code s.args.lim s.args.area.now open_level
+code c = let s = c.before.before.before.before.before.before in c.open_refusal-code.ensures s.args.area.now (usable c.before).whole.level_is
 
-asked : (c : tie.After-early) → let s = c.before.before.before.before.before.before.before in
+asked : (c : tie.After-early-refused) → let s = c.before.before.before.before.before.before.before in
     Asked s.args.lim s.args.area.now (counters_with s.args.length s.args.level) open_level next_counters s.args.next.now
-    c.before.open_refusal.result c.early.result
-asked c = record { whole = (usable c.before.before).whole; code = code c.before; number = c.early.ensures }
+    c.before.open_refusal-code.result c.early-refused.result
+asked c = record { whole = (usable c.before.before).whole; code = code c.before; number = c.early-refused.ensures }
 
 pub open_spec : {M : Type 1} → statement M
 open_spec = tie.close (tie.spec
-    (λ c κs. search rules) (λ c. search rules) (λ c. changes_broken next_counters (denied c.before.is_whole.ensures c.if1.true))
+    (λ c κs. search rules) (λ c. search rules) (λ c. changes_broken next_counters (denied c.before.is_whole.ensures c.if-not-is_whole.true))
     (λ c κs. search rules)
     (λ c κs. let s = c.before.before.before.before.before.before in
     (omega (arith, code c, code_small s.args.lim s.args.area.now open_level), omega arith, omega arith))
-    (λ c. search rules) (λ c. changes_early (asked c.before) c.if2.true) (λ c κs. usable c.before.before.before.before)
-    (λ c κs. enough (asked c.before.before.before.before.before.before.before) c.before.before.before.before.before.before.if2.false)
+    (λ c. search rules) (λ c. changes_early (asked c.before) c.if-refused-ne0.true) (λ c κs. usable c.before.before.before.before)
+    (λ c κs. enough (asked c.before.before.before.before.before.before.before) c.before.before.before.before.before.before.if-refused-ne0.false)
     (λ c. search rules) (λ c. search rules)
     (λ c. changes_done (asked c.before.before.before.before.before.before.before.before.before.before)
-    c.before.before.before.before.before.before.before.before.before.if2.false
-    c.before.before.before.before.before.before.before.open_whole.ensures c.before.before.put_two.ensures refl))
+    c.before.before.before.before.before.before.before.before.before.if-refused-ne0.false
+    c.before.before.before.before.before.before.before.open_whole-done.ensures c.before.before.put_two.ensures refl))

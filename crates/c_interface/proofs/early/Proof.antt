@@ -9,9 +9,9 @@ use Rattle.c_interface.proofs.early.Tie as tie
 pub early_spec : {M : Type 1} → statement M
 early_spec = tie.close (tie.spec
     (λ c κs. search rules)
-    (λ c. let s = c.before.before in c.answer.ensures ∙ refused_number s.args.code s.args.value s.args.needed s.args.room 0 c.before.if1.true)
+    (λ c. let s = c.before.before in c.answer.ensures ∙ refused_number s.args.code s.args.value s.args.needed s.args.room 0 c.before.if-code-ne0.true)
     (λ c κs. (omega arith, search rules))
     (λ c. let s = c.before.before.before in
-    c.answer2.ensures ∙ short_number s.args.code s.args.value s.args.needed s.args.room 0 c.before.before.if1.false c.before.if2.true)
+    c.answer-then-room-needed.ensures ∙ short_number s.args.code s.args.value s.args.needed s.args.room 0 c.before.before.if-code-ne0.false c.before.if-room-needed.true)
     (λ c. let s = c.before.before in
-    done_number s.args.code s.args.value s.args.needed s.args.room 0 c.before.if1.false (omega (arith, c.if2.false))))
+    done_number s.args.code s.args.value s.args.needed s.args.room 0 c.before.if-code-ne0.false (omega (arith, c.if-room-needed.false))))

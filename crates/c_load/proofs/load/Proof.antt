@@ -19,14 +19,14 @@ small : (c : tie.Start) {a : Answer} → a ≡ load_answer c.args.lim (length c.
 small c e = subst Small (sym e) (load_small c.args.lim c.requires (length c.args.area.now) c.args.atoms (cols c))
 
 early_requires : tie.Need-early-requires
-early_requires c κs = let h = small c.before.before.before.before.before.before.before.before c.refusal.ensures in (h.0, h.1, omega arith)
+early_requires c κs = let h = small c.before.before.before.before.before.before.before.before c.refusal-refused.ensures in (h.0, h.1, omega arith)
 
 pub load_spec : {M : Type 1} → statement M
 load_spec = tie.close (tie.spec
-    (λ c κs. search rules) early_requires (λ c. loads_short c.before.before.if1.true _ c.before.refusal.ensures c.early.ensures)
+    (λ c κs. search rules) early_requires (λ c. loads_short c.before.before.if-room-lt2.true _ c.before.refusal-refused.ensures c.early.ensures)
     (λ c κs. search rules) (λ c κs. small c.before.before.before.before.before.before.before.before.before.before.before.before.before
-    c.before.before.before.before.load_within.ensures.answer_is) (λ c. search rules)
-    (λ c. loads_refused c.before.before.before.before.before.load_within.ensures c.before.if2.true c.answer.ensures)
+    c.before.before.before.before.load_within-loaded.ensures.answer_is) (λ c. search rules)
+    (λ c. loads_refused c.before.before.before.before.before.load_within-loaded.ensures c.before.if-loaded-ne0.true c.answer.ensures)
     (λ c κs. search rules) (λ c. search rules) (λ c. search rules)
-    (λ c. loads_done c.before.before.before.before.before.before.before.before.load_within.ensures c.before.before.before.before.if2.false
-    (omega (arith, c.before.before.before.before.before.before.before.before.before.before.if1.false)) c.before.before.put_two.ensures refl))
+    (λ c. loads_done c.before.before.before.before.before.before.before.before.load_within-loaded.ensures c.before.before.before.before.if-loaded-ne0.false
+    (omega (arith, c.before.before.before.before.before.before.before.before.before.before.if-room-lt2.false)) c.before.before.put_two.ensures refl))

@@ -12,11 +12,11 @@ pub explain_conflict_spec : {M : Type 1} → statement M
 explain_conflict_spec = tie.close (tie.spec
     (λ c κs. search rules)
     (λ c κs. let s = c.before.before.before.before in
-    let l = c.before.explain_conflict_within.ensures in
-    conflict_list_small s.args.lim s.requires s.args.area.now _ (listed_returned c.before.explain_conflict_within.result) s.args.sentence (length
+    let l = c.before.explain_conflict_within-found.ensures in
+    conflict_list_small s.args.lim s.requires s.args.area.now _ (listed_returned c.before.explain_conflict_within-found.result) s.args.sentence (length
     s.args.list.now) l.answer)
     (λ c. search rules)
     (λ c. let s = c.before.before.before.before.before in
-    let l = c.before.before.explain_conflict_within.ensures in
+    let l = c.before.before.explain_conflict_within-found.ensures in
     reports_list s.args.lim s.args.area.now _ (explain_conflict s.args.sentence) s.args.list.now _ (listed_returned
-    c.before.before.explain_conflict_within.result) _ l c.answer.ensures))
+    c.before.before.explain_conflict_within-found.result) _ l c.answer.ensures))

@@ -14,10 +14,10 @@ pub origin_spec : {M : Type 1} → statement M
 origin_spec = tie.close (tie.spec
     (λ c κs. search rules)
     (λ c κs. let s = c.before.before.before.before in
-    let l = rw (to_z-of_z w64 s.args.literal s.ranges.literal) at c.before.origin_within.ensures in
-    origin_small s.args.lim s.requires s.args.area.now _ (listed_returned c.before.origin_within.result) s.args.literal (length s.args.list.now) l.answer)
+    let l = rw (to_z-of_z w64 s.args.literal s.ranges.literal) at c.before.origin_within-found.ensures in
+    origin_small s.args.lim s.requires s.args.area.now _ (listed_returned c.before.origin_within-found.result) s.args.literal (length s.args.list.now) l.answer)
     (λ c. search rules)
     (λ c. let s = c.before.before.before.before.before in
-    let l = rw (to_z-of_z w64 s.args.literal s.ranges.literal) at c.before.before.origin_within.ensures in
+    let l = rw (to_z-of_z w64 s.args.literal s.ranges.literal) at c.before.before.origin_within-found.ensures in
     reports_list s.args.lim s.args.area.now _ (origin s.args.literal) s.args.list.now _ (listed_returned
-    c.before.before.origin_within.result) _ l c.answer.ensures))
+    c.before.before.origin_within-found.result) _ l c.answer.ensures))

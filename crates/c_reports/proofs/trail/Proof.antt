@@ -12,9 +12,9 @@ pub trail_spec : {M : Type 1} → statement M
 trail_spec = tie.close (tie.spec
     (λ c κs. search rules)
     (λ c κs. let s = c.before.before.before.before in
-    let l = c.before.list_trail_within.ensures in
-    trail_small s.args.lim s.requires s.args.area.now _ (listed_returned c.before.list_trail_within.result) (length s.args.list.now) l.answer)
+    let l = c.before.list_trail_within-found.ensures in
+    trail_small s.args.lim s.requires s.args.area.now _ (listed_returned c.before.list_trail_within-found.result) (length s.args.list.now) l.answer)
     (λ c. search rules)
     (λ c. let s = c.before.before.before.before.before in
-    let l = c.before.before.list_trail_within.ensures in
-    reports_list s.args.lim s.args.area.now _ list_trail s.args.list.now _ (listed_returned c.before.before.list_trail_within.result) _ l c.answer.ensures))
+    let l = c.before.before.list_trail_within-found.ensures in
+    reports_list s.args.lim s.args.area.now _ list_trail s.args.list.now _ (listed_returned c.before.before.list_trail_within-found.result) _ l c.answer.ensures))

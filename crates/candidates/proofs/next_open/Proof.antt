@@ -19,64 +19,64 @@ use borrow.Author.Rules.{rules}
 use Rattle.candidates.proofs.next_open.Statement.{statement}
 use Rattle.candidates.proofs.next_open.Tie as tie
 
-abbrev invariant_loop : tie.invariant_loop
-invariant_loop area literals start n j₀ j =
+abbrev invariant-loop-j : tie.invariant-loop-j
+invariant-loop-j area literals start n j₀ j =
     (start ≤ j) × (j ≤ length literals) × ((lim : Limits) (c : Counters) → Whole lim area c → (total : ℕ)
     → trying (area_state lim area) total start (drop start literals) ≡ trying (area_state lim area) total j (drop j literals))
 
-abbrev decreases_loop : tie.decreases_loop
-decreases_loop area literals start n j₀ j = length literals - j
+abbrev decreases-loop-j : tie.decreases-loop-j
+decreases-loop-j area literals start n j₀ j = length literals - j
 
 -- the atom of literal j, one of the area's, and its value word
-at : (c : tie.After-atom-of invariant_loop decreases_loop) → let s = c.before.before.before.before.before.before in
-    IsAtom (atoms_of s.args.area.now) (nth s.args.literals.now c.before.before.before.loop.j) c.atom_of.result
+at : (c : tie.After-atom_of-atom invariant-loop-j decreases-loop-j) → let s = c.before.before.before.before.before.before in
+    IsAtom (atoms_of s.args.area.now) (nth s.args.literals.now c.before.before.before.loop-j.j) c.atom_of-atom.result
 at c = let s = c.before.before.before.before.before.before in
-    let l = nth s.args.literals.now c.before.before.before.loop.j in
-    known_atom _ (rw c.before.before.before.before.atoms_of.ensures at
-    (told_atom l (record { sfits = c.before.atom-of-arg.given }) c.atom_of.ensures))
-    (known_at _ s.args.literals.now s.requires.searchable.known c.before.before.before.loop.j (omega arith))
+    let l = nth s.args.literals.now c.before.before.before.loop-j.j in
+    known_atom _ (rw c.before.before.before.before.atoms_of-n.ensures at
+    (told_atom l (record { sfits = c.before.atom_of-arg-1.given }) c.atom_of-atom.ensures))
+    (known_at _ s.args.literals.now s.requires.searchable.known c.before.before.before.loop-j.j (omega arith))
 
-told_value : (c : tie.After-value-at invariant_loop decreases_loop)
+told_value : (c : tie.After-value_at invariant-loop-j decreases-loop-j)
     → let s = c.before.before.before.before.before.before.before in
     c.value_at.result ≡ value_at s.args.area.now (atoms_of s.args.area.now)
-    (atom (nth s.args.literals.now c.before.before.before.before.loop.j))
+    (atom (nth s.args.literals.now c.before.before.before.before.loop-j.j))
 told_value c = c.value_at.ensures ∙ ap₂ {A = ℕ} {B = ℕ} (value_at c.before.before.before.before.before.before.before.args.area.now)
-    c.before.before.before.before.before.atoms_of.ensures (at c.before).is
+    c.before.before.before.before.before.atoms_of-n.ensures (at c.before).is
 
-returns : tie.Need-returns invariant_loop decreases_loop
-returns c = λ lim had whole. let i = c.before.before.before.before.before.loop.invariant in
+returns : tie.Need-returns-then-value_at-eq0 invariant-loop-j decreases-loop-j
+returns c = λ lim had whole. let i = c.before.before.before.before.before.loop-j.invariant in
     let a = at c.before.before in
     record {
       later = i.0;
       inside = i.1;
       passed = i.2 lim had whole;
-      is_open = λ l. open_off_trail lim _ had whole _ a.low a.high (sym (told_value c.before) ∙ c.if1.true);
+      is_open = λ l. open_off_trail lim _ had whole _ a.low a.high (sym (told_value c.before) ∙ c.if-value_at-eq0.true);
     }
 
-loop_again : tie.Need-loop-preserved invariant_loop decreases_loop
-loop_again c = let i = c.before.before.before.before.before.loop.invariant in
+loop_again : tie.Need-loop-j-preserved invariant-loop-j decreases-loop-j
+loop_again c = let i = c.before.before.before.before.before.loop-j.invariant in
     let a = at c.before.before in
     let ls = c.before.before.before.before.before.before.before.before.args.literals.now in
-    let f : suc c.before.before.before.before.before.loop.j ≡ c.before.before.before.before.before.loop.j + 1 = omega arith in (
+    let f : suc c.before.before.before.before.before.loop-j.j ≡ c.before.before.before.before.before.loop-j.j + 1 = omega arith in (
       omega (arith, i.0),
       omega arith,
       λ lim had whole total. let q = area_state lim c.before.before.before.before.before.before.before.before.args.area.now in
           i.2 lim had whole total
-          ∙ try_passed q ls c.before.before.before.before.before.loop.j total (omega arith)
-          (taken_on_trail lim _ had whole _ a.low a.high (λ z. c.if1.false (told_value c.before ∙ z)))
+          ∙ try_passed q ls c.before.before.before.before.before.loop-j.j total (omega arith)
+          (taken_on_trail lim _ had whole _ a.low a.high (λ z. c.if-value_at-eq0.false (told_value c.before ∙ z)))
           ∙ ap {A = ℕ} (λ k. trying q total k (drop k ls)) f,
     )
 
 pub next_open_spec : {M : Type 1} → statement M
 next_open_spec = tie.close (tie.spec
-    invariant_loop decreases_loop (λ c κs. let h = c.before.requires.searchable.usable.whole in omega (arith, h.enough, h.theory.atoms_low))
+    invariant-loop-j decreases-loop-j (λ c κs. let h = c.before.requires.searchable.usable.whole in omega (arith, h.enough, h.theory.atoms_low))
     (λ c. (omega arith, c.before.before.requires.inside, λ lim h whole total. refl)) (λ c. search rules) (λ c. search rules) (λ c κs. search rules)
     (λ c κs. let h = c.before.before.before.before.before.before.requires.searchable.usable.whole in
     let a = at (c) in (
-      omega (arith, c.before.before.before.before.atoms_of.ensures, h.theory.atoms_low),
+      omega (arith, c.before.before.before.before.atoms_of-n.ensures, h.theory.atoms_low),
       omega
-          (arith, c.before.before.before.before.atoms_of.ensures, h.enough, h.theory.atoms_low, a.is, a.high),
+          (arith, c.before.before.before.before.atoms_of-n.ensures, h.enough, h.theory.atoms_low, a.is, a.high),
     ))
     returns (λ c. search rules) (λ c. search rules) loop_again
-    (λ c. λ lim had whole. let i = c.before.loop.invariant in
+    (λ c. λ lim had whole. let i = c.before.loop-j.invariant in
     record { later = i.0; inside = i.1; passed = i.2 lim had whole; is_open = λ l. let b : ⊥ = omega (arith, l) in absurd b }))

@@ -6,7 +6,7 @@ use Rattle.causes.proofs.atom_at.Tie as tie
 
 pub atom_at_spec : {M : Type 1} → statement M
 atom_at_spec = tie.close (tie.spec
-    (λ c κs. search rules) (λ c. rw c.head_at.ensures (head_at _ _ _ _ c.before.before.before.requires.0 _ c.before.if1.true))
+    (λ c κs. search rules) (λ c. rw c.head_at.ensures (head_at _ _ _ _ c.before.before.before.requires.0 _ c.before.if-place-eq0.true))
     (λ c. search rules) (λ c κs. search rules)
     (λ c. let s = c.before.before.before in
-    rw c.entry_literal_at.ensures (entry_within _ _ _ _ s.requires.0 s.args.place c.before.if1.false s.requires.1)))
+    rw c.entry_literal_at.ensures (entry_within _ _ _ _ s.requires.0 s.args.place c.before.if-place-eq0.false s.requires.1)))

@@ -9,38 +9,38 @@ use Rattle.chosen.proofs.Chosen.{none_chosen, counted_more, counted_same}
 use Rattle.chosen.proofs.count_chosen.Statement.{statement}
 use Rattle.chosen.proofs.count_chosen.Tie as tie
 
-abbrev invariant_loop : tie.invariant_loop
-invariant_loop area n rows marks found₀ i₀ found i = (i ≤ rows) × (found ≤ i) × (found ≡ length (chosen_literals area n marks i))
+abbrev invariant-loop-i : tie.invariant-loop-i
+invariant-loop-i area n rows marks found₀ i₀ found i = (i ≤ rows) × (found ≤ i) × (found ≡ length (chosen_literals area n marks i))
 
-abbrev decreases_loop : tie.decreases_loop
-decreases_loop area n rows marks found₀ i₀ found i = rows - i
+abbrev decreases-loop-i : tie.decreases-loop-i
+decreases-loop-i area n rows marks found₀ i₀ found i = rows - i
 
-loop_again : tie.Need-loop-preserved invariant_loop decreases_loop
+loop_again : tie.Need-loop-i-preserved invariant-loop-i decreases-loop-i
 loop_again c = let s = c.before.before.before.before.before.before in
     let told = sym c.before.is_chosen.ensures in (
       omega arith,
-      ⊎_elim (λ y. omega (arith, y.1)) (λ y. omega (arith, y.1)) c.if1.branch,
+      ⊎_elim (λ y. omega (arith, y.1)) (λ y. omega (arith, y.1)) c.if-is_chosen.branch,
       ⊎_elim
           (λ y. omega (
             arith,
             y.1,
-            c.before.before.before.loop.invariant.2,
+            c.before.before.before.loop-i.invariant.2,
             counted_more s.args.area.now s.args.n s.args.marks.now
-                c.before.before.before.loop.i (told ∙ y.0.taken),
+                c.before.before.before.loop-i.i (told ∙ y.0.taken),
           ))
           (λ y. omega (
             arith,
             y.1,
-            c.before.before.before.loop.invariant.2,
+            c.before.before.before.loop-i.invariant.2,
             counted_same s.args.area.now s.args.n s.args.marks.now
-                c.before.before.before.loop.i (told ∙ y.0.left),
+                c.before.before.before.loop-i.i (told ∙ y.0.left),
           ))
-          c.if1.branch,
+          c.if-is_chosen.branch,
     )
 
 pub count_chosen_spec : {M : Type 1} → statement M
 count_chosen_spec = tie.close (tie.spec
-    invariant_loop decreases_loop (λ c. (omega arith, omega arith, ap length (sym (none_chosen _ _ _))))
+    invariant-loop-i decreases-loop-i (λ c. (omega arith, omega arith, ap length (sym (none_chosen _ _ _))))
     (λ c κs. let p = c.before.before.before.before.requires in record { few = omega (arith, p.few); words = p.words; marks = omega (arith, p.marks) })
     (λ c. omega arith) (λ c. omega arith) (λ c. omega arith) loop_again
-    (λ c. let e : c.before.loop.i ≡ c.before.before.before.before.args.rows = omega arith in rw e at c.before.loop.invariant.2))
+    (λ c. let e : c.before.loop-i.i ≡ c.before.before.before.before.args.rows = omega arith in rw e at c.before.loop-i.invariant.2))

@@ -13,49 +13,49 @@ use Rattle.chosen.proofs.Chosen.{none_chosen, counted_more, counted_same, never_
 use Rattle.chosen.proofs.write_chosen.Statement.{statement}
 use Rattle.chosen.proofs.write_chosen.Tie as tie
 
-abbrev invariant_loop : tie.invariant_loop
-invariant_loop area n rows marks list₀ at₀ i₀ list at i = (i ≤ rows) × (at ≡ length (chosen_literals area n marks i)) × Written area n marks i list₀ list
+abbrev invariant-loop-i : tie.invariant-loop-i
+invariant-loop-i area n rows marks list₀ at₀ i₀ list at i = (i ≤ rows) × (at ≡ length (chosen_literals area n marks i)) × Written area n marks i list₀ list
 
-abbrev decreases_loop : tie.decreases_loop
-decreases_loop area n rows marks list₀ at₀ i₀ list at i = rows - i
+abbrev decreases-loop-i : tie.decreases-loop-i
+decreases-loop-i area n rows marks list₀ at₀ i₀ list at i = rows - i
 
 -- there is room for one literal more
-room : (c : tie.Then1 invariant_loop decreases_loop) → c.before.before.before.loop.at + 1 ≤ length c.before.before.before.before.before.before.args.list.now
+room : (c : tie.Then-is_chosen invariant-loop-i decreases-loop-i) → c.before.before.before.loop-i.at + 1 ≤ length c.before.before.before.before.before.before.args.list.now
 room c = let s = c.before.before.before.before.before.before in
     let w = s.args.area.now in
     let m = s.args.marks.now in
     omega (
       arith,
       s.requires.1,
-      c.before.before.before.loop.invariant.1,
-      counted_more w s.args.n m c.before.before.before.loop.i
-          (sym c.before.is_chosen.ensures ∙ c.if1.true),
-      never_fewer w s.args.n m (c.before.before.before.loop.i + 1) s.args.rows (omega arith),
+      c.before.before.before.loop-i.invariant.1,
+      counted_more w s.args.n m c.before.before.before.loop-i.i
+          (sym c.before.is_chosen.ensures ∙ c.if-is_chosen.true),
+      never_fewer w s.args.n m (c.before.before.before.loop-i.i + 1) s.args.rows (omega arith),
     )
 
-slice_set_from_list : tie.Need-slice-set-from-list invariant_loop decreases_loop
+slice_set_from_list : tie.Need-bounds-list-at invariant-loop-i decreases-loop-i
 slice_set_from_list c = let s = c.before.before.before.before.before.before.before.before in
     let more = room c.before.before in
     omega (
       arith,
       more,
-      written_length s.args.area.now s.args.n s.args.marks.now c.before.before.before.before.before.loop.i
-          s.args.list.now c.before.before.before.before.before.loop.list c.before.before.before.before.before.loop.invariant.2
+      written_length s.args.area.now s.args.n s.args.marks.now c.before.before.before.before.before.loop-i.i
+          s.args.list.now c.before.before.before.before.before.loop-i.list c.before.before.before.before.before.loop-i.invariant.2
           (omega (arith, more)),
     )
 
-loop_again : tie.Need-loop-preserved invariant_loop decreases_loop
+loop_again : tie.Need-loop-i-preserved invariant-loop-i decreases-loop-i
 loop_again c = let s = c.before.before.before.before.before.before in
     let w = s.args.area.now in
     let n = s.args.n in
     let m = s.args.marks.now in
-    let x = c.before.before.before.loop in
+    let x = c.before.before.before.loop-i in
     let told = sym c.before.is_chosen.ensures in (
       omega arith,
       ⊎_elim
           (λ y. omega (arith, y.4, x.invariant.1, counted_more w n m x.i (told ∙ y.0.taken)))
           (λ y. omega (arith, y.2, x.invariant.1, counted_same w n m x.i (told ∙ y.0.left)))
-          c.if1.branch,
+          c.if-is_chosen.branch,
       ⊎_elim
           (λ y.
           let e = told ∙ y.0.taken in
@@ -63,18 +63,18 @@ loop_again c = let s = c.before.before.before.before.before.before in
           rw y.3 (one_written w n m x.i _ _ x.invariant.2 e (omega (arith, s.requires.1, more, counted_more w n m x.i e)) x.at x.invariant.1 _
           (to_z-of_z w64 y.2.result (search rules) ∙ y.2.ensures ∙ ap {A = ℕ} literal_of y.1.ensures)))
           (λ y. rw y.1 (same_written w n m x.i _ _ (told ∙ y.0.left) x.invariant.2))
-          c.if1.branch,
+          c.if-is_chosen.branch,
     )
 
 pub write_chosen_spec : {M : Type 1} → statement M
 write_chosen_spec = tie.close (tie.spec
-    invariant_loop decreases_loop (λ c. (omega arith, ap length (sym (none_chosen _ _ _)), none_written _ _ _ _))
+    invariant-loop-i decreases-loop-i (λ c. (omega arith, ap length (sym (none_chosen _ _ _)), none_written _ _ _ _))
     (λ c κs. let p = c.before.before.before.before.requires.0 in record
     { few = omega (arith, p.few); words = p.words; marks = omega (arith, p.marks) })
     (λ c κs. let p = c.before.before.before.before.before.before.requires.0 in omega (arith, p.few, p.words)) (λ c κs. search rules)
     (λ c. omega (arith, room c.before.before)) slice_set_from_list (λ c. omega (arith, room c.before.before)) (λ c. omega arith)
     (λ c. omega arith) loop_again
     (λ c. let s = c.before.before.before.before in
-    written_length _ _ _ c.before.loop.i _ _ c.before.loop.invariant.2
-    (omega (arith, s.requires.1, never_fewer s.args.area.now s.args.n s.args.marks.now c.before.loop.i s.args.rows (omega arith))))
-    (λ c. let e : c.before.loop.i ≡ c.before.before.before.before.args.rows = omega arith in rw e at c.before.loop.invariant.2))
+    written_length _ _ _ c.before.loop-i.i _ _ c.before.loop-i.invariant.2
+    (omega (arith, s.requires.1, never_fewer s.args.area.now s.args.n s.args.marks.now c.before.loop-i.i s.args.rows (omega arith))))
+    (λ c. let e : c.before.loop-i.i ≡ c.before.before.before.before.args.rows = omega arith in rw e at c.before.loop-i.invariant.2))

@@ -20,72 +20,72 @@ use Rattle.conflict.proofs.conflict_whole.Tie as tie
 abbrev Told : tie.Start → Bool → Type 0
 Told s r = let w = s.args.area.now in ConflictIs w (atoms_of w) (sentences_of w) (record_at (atoms_of w) (s.args.sentence.0 - 1)) r
 
-told : (c : tie.After-in-conflict) {r : Bool} → c.in_conflict.result ≡ r → Told c.before.before.before.before.before.before r
+told : (c : tie.After-in_conflict) {r : Bool} → c.in_conflict.result ≡ r → Told c.before.before.before.before.before.before r
 told c e = subst (Told c.before.before.before.before.before.before) e
-    (rw (c.before.before.before.before.atoms_of.ensures, c.before.before.before.sentences_of.ensures) at c.in_conflict.ensures)
+    (rw (c.before.before.before.before.atoms_of-n.ensures, c.before.before.before.sentences_of-sentences.ensures) at c.in_conflict.ensures)
 
-clashing : (c : tie.Else3) → Told c.before.before.before.before.before.before.before true
-clashing c = told c.before (not-false c.before.in_conflict.result c.if3.false)
+clashing : (c : tie.Else-not-in_conflict) → Told c.before.before.before.before.before.before.before true
+clashing c = told c.before (not-false c.before.in_conflict.result c.if-not-in_conflict.false)
 
-high : (c : tie.Else2) → let s = c.before.before.before.before.before in
+high : (c : tie.Else-k-sentences) → let s = c.before.before.before.before.before in
     s.args.sentence.0 ≤ sentences_of s.args.area.now
-high c = omega (arith, c.before.before.sentences_of.ensures, c.if2.false)
+high c = omega (arith, c.before.before.sentences_of-sentences.ensures, c.if-k-sentences.false)
 
-told_count : (c : tie.After-count-causes) → let s = c.before.before.before.before.before.before.before.before.before in
+told_count : (c : tie.After-count_causes-needed) → let s = c.before.before.before.before.before.before.before.before.before in
     let w = s.args.area.now in
-    c.count_causes.result ≡ length (negations w (atoms_of w) (sentences_of w) (record_at (atoms_of w) (s.args.sentence.0 - 1)) (length_of w))
+    c.count_causes-needed.result ≡ length (negations w (atoms_of w) (sentences_of w) (record_at (atoms_of w) (s.args.sentence.0 - 1)) (length_of w))
 told_count c = rw (
-  c.before.before.before.before.before.before.before.atoms_of.ensures,
-  c.before.before.before.before.before.before.sentences_of.ensures,
-  c.before.length_of.ensures,
-) at c.count_causes.ensures
+  c.before.before.before.before.before.before.before.atoms_of-n.ensures,
+  c.before.before.before.before.before.before.sentences_of-sentences.ensures,
+  c.before.length_of-rows.ensures,
+) at c.count_causes-needed.ensures
 
-write_causes_requires : tie.Need-write-causes-requires
+write_causes_requires : tie.Need-write_causes-requires
 write_causes_requires c κs = let s = c.before.before.before.before.before.before.before.before.before.before.before in
     rw (
-      c.before.before.before.before.before.before.before.before.before.atoms_of.ensures,
-      c.before.before.before.before.before.before.before.before.sentences_of.ensures,
-      c.before.before.before.length_of.ensures,
+      c.before.before.before.before.before.before.before.before.before.atoms_of-n.ensures,
+      c.before.before.before.before.before.before.before.before.sentences_of-sentences.ensures,
+      c.before.before.before.length_of-rows.ensures,
     ) (
       conflict_asked s.requires.0 s.requires.1 s.args.sentence.0 (omega arith) (high c.before.before.before.before.before.before),
       omega
-          (arith, told_count c.before.before, c.before.if4.false),
+          (arith, told_count c.before.before, c.before.if-needed-list.false),
     )
 
-returns_5 : tie.Need-returns-5
+returns_5 : tie.Need-returns
 returns_5 c = let s = c.before.before.before.before.before.before.before.before.before.before.before.before.before in
     clash_listed s.requires.0 s.requires.1 s.args.sentence.0 (omega arith) (high c.before.before.before.before.before.before.before.before)
-    (clashing c.before.before.before.before.before.before) _ (told_count c.before.before.before.before) c.before.before.before.if4.false
+    (clashing c.before.before.before.before.before.before) _ (told_count c.before.before.before.before) c.before.before.before.if-needed-list.false
     (rw (
-      c.before.before.before.before.before.before.before.before.before.before.before.atoms_of.ensures,
-      c.before.before.before.before.before.before.before.before.before.before.sentences_of.ensures,
-      c.before.before.before.before.before.length_of.ensures,
+      c.before.before.before.before.before.before.before.before.before.before.before.atoms_of-n.ensures,
+      c.before.before.before.before.before.before.before.before.before.before.sentences_of-sentences.ensures,
+      c.before.before.before.before.before.length_of-rows.ensures,
     ) at c.before.write_causes.ensures)
 
 pub conflict_whole_spec : {M : Type 1} → statement M
 conflict_whole_spec = tie.close (tie.spec
     (λ c κs. search rules) (λ c κs. search rules)
     (λ c. let s = c.before.before.before.before in
-    listing_refused _ _ _ _ 16 0 (conflict_none s.args.lim s.args.area.now _ _ c.if1.true))
+    listing_refused _ _ _ _ 16 0 (conflict_none s.args.lim s.args.area.now _ _ c.if-k-eq0.true))
     (λ c. let s = c.before.before.before.before.before in
     listing_refused _ _ _ _ 16 0
-    (conflict_past s.args.lim s.args.area.now s.args.sentence.0 _ (omega (arith, c.before.before.sentences_of.ensures, c.if2.true))))
+    (conflict_past s.args.lim s.args.area.now s.args.sentence.0 _ (omega (arith, c.before.before.sentences_of-sentences.ensures, c.if-k-sentences.true))))
     (λ c. search rules) (λ c. search rules) (λ c. search rules) (λ c. search rules)
     (λ c κs. let s = c.before.before.before.before.before in
-    rw (c.before.before.before.atoms_of.ensures, c.before.before.sentences_of.ensures)
+    rw (c.before.before.before.atoms_of-n.ensures, c.before.before.sentences_of-sentences.ensures)
     (comparable s.requires.0 s.requires.1 (s.args.sentence.0 - 1) (omega (arith, high c))))
     (λ c. let s = c.before.before.before.before.before.before.before in
     quiet_refused s.requires.0 s.requires.1 s.args.sentence.0 (omega arith) (high c.before.before) _
-    (told c.before (not-true c.before.in_conflict.result c.if3.true)))
+    (told c.before (not-true c.before.in_conflict.result c.if-not-in_conflict.true)))
     (λ c κs. search rules)
     (λ c κs. let s = c.before.before.before.before.before.before.before.before in
     rw (
-      c.before.before.before.before.before.before.atoms_of.ensures,
-      c.before.before.before.before.before.sentences_of.ensures,
-      c.length_of.ensures,
+      c.before.before.before.before.before.before.atoms_of-n.ensures,
+      c.before.before.before.before.before.sentences_of-sentences.ensures,
+      c.length_of-rows.ensures,
     )
     (conflict_asked s.requires.0 s.requires.1 s.args.sentence.0 (omega arith) (high c.before.before.before)))
     (λ c. let s = c.before.before.before.before.before.before.before.before.before.before in
     clash_short s.requires.0 s.requires.1 s.args.sentence.0 (omega arith) (high c.before.before.before.before.before)
-    (clashing c.before.before.before) _ (told_count c.before) c.if4.true)
+    (clashing c.before.before.before) _ (told_count c.before) c.if-needed-list.true)
     write_causes_requires (λ c. search rules) returns_5)

@@ -10,5 +10,5 @@ pub answer_done_spec : {M : Type 1} → statement M
 answer_done_spec = tie.close (tie.spec
     (λ c. search rules) (λ c κs. search rules) (λ c. search rules)
     (λ c κs. let s = c.before.before.before.before.before in
-    on_page c.before.before.put_done.ensures (done_fits s.args.name.now (done_returned s.args.answer) s.requires))
+    on_page c.before.before.put_done-end.ensures (done_fits s.args.name.now (done_returned s.args.answer) s.requires))
     (λ c. search rules))

@@ -8,4 +8,4 @@ use Rattle.console_answers.proofs.answer_plan.Tie as tie
 pub answer_plan_spec : {M : Type 1} → statement M
 answer_plan_spec = tie.close (tie.spec
     (λ c. search rules) (λ c κs. search rules) (λ c. search rules)
-    (λ c κs. on_page c.before.before.put_plan.ensures (plan_fits c.before.before.before.before.args.answer)) (λ c. search rules))
+    (λ c κs. on_page c.before.before.put_plan-end.ensures (plan_fits c.before.before.before.before.args.answer)) (λ c. search rules))

@@ -10,6 +10,6 @@ pub answer_trail_spec : {M : Type 1} → statement M
 answer_trail_spec = tie.close (tie.spec
     (λ c. search rules) (λ c κs. search rules) (λ c. search rules)
     (λ c κs. let a = c.before.before.before.before.before.args in
-    trail_on_page (listed_returned a.answer) a.list.now 3072 c.before.before.before.put-trail-arg.given.0 refl
-    c.before.before.put_trail.ensures)
+    trail_on_page (listed_returned a.answer) a.list.now 3072 c.before.before.before.put_trail-arg-1.given.0 refl
+    c.before.before.put_trail-end.ensures)
     (λ c. search rules))

@@ -7,4 +7,4 @@ use Rattle.console_entries.proofs.store.Tie as tie
 
 pub store_spec : {M : Type 1} → statement M
 store_spec = tie.close (tie.spec
-    (λ c. search rules) (λ c. search rules) (λ c. search rules) (λ c. search rules) (λ c. sym (set_out _ _ _ c.if1.false)))
+    (λ c. search rules) (λ c. search rules) (λ c. search rules) (λ c. search rules) (λ c. sym (set_out _ _ _ c.if-at-column.false)))

@@ -15,7 +15,7 @@ take_entry_spec = tie.close (tie.spec
     (λ c κs. search rules) (λ c. search rules) (λ c. search rules) (λ c. search no_literal)
     (λ c. let weight = c.before.before.before.before.before in let two = weight.before.before.before.before.before in let one = two.before.before.before.before in
     let s = one.before.before.before.before.before.args in
-    rw (to_z-of_z w64 _ (record { sfits = weight.known-told3.given.0.1 }), to_z-of_z w64 _ (record { sfits = c.known-told4.given.0.1 }))
-    (entry_here s.line.now s.at one.before.before.before.next_word.ensures one.before.from.given.1 two.before.before.before.next-word2.ensures
-    two.before.start.given.1 weight.before.before.before.read_signed.ensures weight.before.weight.given.1 c.before.before.before.read-signed2.ensures
-    c.before.literal.given.1)))
+    rw (to_z-of_z w64 _ (record { sfits = weight.known-told3.given.0.1 }), to_z-of_z w64 _ (record { sfits = c.known_told-in-Integer-read_signed-2-1.given.0.1 }))
+    (entry_here s.line.now s.at one.before.before.before.next_word.ensures one.before.from-1.given.1 two.before.before.before.next_word-2.ensures
+    two.before.start-1.given.1 weight.before.before.before.read_signed.ensures weight.before.weight-1.given.1 c.before.before.before.read_signed-2.ensures
+    c.before.literal-1.given.1)))

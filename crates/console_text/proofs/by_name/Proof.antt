@@ -15,30 +15,30 @@ pub by_name_spec : {M : Type 1} → statement M
 by_name_spec = tie.close (tie.spec
     (λ c. search rules) (λ c κs. search rules)
     (λ c. let s = c.before.before.before.before in
-    c.read_plan.ensures ∙ sym (ap (λ (n : Name). by_name n (words (drop s.args.at s.args.line.now))) c.before.enum_told.given.1))
+    c.read_plan.ensures ∙ sym (ap (λ (n : Name). by_name n (words (drop s.args.at s.args.line.now))) c.before.enum_told-1.given.1))
     (λ c. search rules) (λ c κs. search rules)
     (λ c. let s = c.before.before.before.before in
-    c.read_rule.ensures ∙ sym (ap (λ (n : Name). by_name n (words (drop s.args.at s.args.line.now))) c.before.enum-told2.given.1))
+    c.read_rule.ensures ∙ sym (ap (λ (n : Name). by_name n (words (drop s.args.at s.args.line.now))) c.before.enum_told-in-Rule-1.given.1))
     (λ c. search rules) (λ c κs. search rules) (λ c. search rules) (λ c. search rules)
     (λ c. let nx = c.before.before.before.before in let s = nx.before.before.before in
     sym (ap (λ (n : Name). by_name n (words (drop s.args.at s.args.line.now))) nx.name.given.1
-    ∙ rw (found c.before.before.next_word.ensures c.enum-told4.given.1).words_are))
+    ∙ rw (found c.before.before.next_word.ensures c.enum_told-in_default-1.given.1).words_are))
     (λ c. let nx = c.before.before.before.before in let s = nx.before.before.before in
     sym (ap (λ (n : Name). by_name n (words (drop s.args.at s.args.line.now))) nx.name.given.1
-    ∙ rw (ended s.args.line.now s.args.at c.before.before.next_word.ensures c.enum-told3.given.1)))
+    ∙ rw (ended s.args.line.now s.args.at c.before.before.next_word.ensures c.enum_told-in-End-1.given.1)))
     (λ c. search rules) (λ c κs. search rules) (λ c. search rules) (λ c. search rules)
     (λ c. let n2 = c.before.before.before.before in let s = n2.before.before.before in
     sym (ap (λ (n : Name). by_name n (words (drop s.args.at s.args.line.now))) n2.name2.given.1
-    ∙ rw (sym c.before.before.only_signed.ensures ∙ c.enum-told5.given.1)))
+    ∙ rw (sym c.before.before.only_signed.ensures ∙ c.enum_told-in_default-only_signed-1.given.1)))
     (λ c. let n2 = c.before.before.before.before.before in let s = n2.before.before.before in
-    rw (to_z-of_z w64 _ (record { sfits = c.known-told3.given.0.1 })) (sym (ap (λ (n : Name). by_name n (words (drop s.args.at s.args.line.now))) n2.name2.given.1 ∙ rw (sym c.before.before.before.only_signed.ensures ∙ c.before.literal.given.1))))
+    rw (to_z-of_z w64 _ (record { sfits = c.known_told-in-Integer-1.given.0.1 })) (sym (ap (λ (n : Name). by_name n (words (drop s.args.at s.args.line.now))) n2.name2.given.1 ∙ rw (sym c.before.before.before.only_signed.ensures ∙ c.before.literal-1.given.1))))
     (λ c. search rules) (λ c κs. search rules) (λ c. search rules) (λ c. search rules)
     (λ c. let n3 = c.before.before.before.before in let s = n3.before.before.before in
     sym (ap (λ (n : Name). by_name n (words (drop s.args.at s.args.line.now))) n3.name3.given.1
-    ∙ rw (sym c.before.before.only_unsigned.ensures ∙ c.enum-told6.given.1)))
+    ∙ rw (sym c.before.before.only_unsigned.ensures ∙ c.enum_told-in_default-only_unsigned-1.given.1)))
     (λ c. let n3 = c.before.before.before.before.before in let s = n3.before.before.before in
     sym (ap (λ (n : Name). by_name n (words (drop s.args.at s.args.line.now))) n3.name3.given.1
-    ∙ rw (sym c.before.before.before.only_unsigned.ensures ∙ c.before.number.given.1)))
+    ∙ rw (sym c.before.before.before.only_unsigned.ensures ∙ c.before.number-1.given.1)))
     (λ c. search rules)
     (λ c. sym (ap (λ (n : Name). by_name n (words (drop c.before.before.before.args.at c.before.before.before.args.line.now)))
-    c.enum-told7.given.1)))
+    c.enum_told-in-Unknown-1.given.1)))

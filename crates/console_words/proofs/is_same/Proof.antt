@@ -10,22 +10,22 @@ use Rattle.console_words.proofs.Words.{same_front, differ, same_lengths, same_en
 use Rattle.console_words.proofs.is_same.Statement.{statement}
 use Rattle.console_words.proofs.is_same.Tie as tie
 
-abbrev invariant_loop : tie.invariant_loop
-invariant_loop word text i₀ i = (i ≤ length word) × (length word ≡ length text) × (same word text ≡ same (drop i word) (drop i text))
+abbrev invariant-loop-i : tie.invariant-loop-i
+invariant-loop-i word text i₀ i = (i ≤ length word) × (length word ≡ length text) × (same word text ≡ same (drop i word) (drop i text))
 
-abbrev decreases_loop : tie.decreases_loop
-decreases_loop word text i₀ i = length word - i
+abbrev decreases-loop-i : tie.decreases-loop-i
+decreases-loop-i word text i₀ i = length word - i
 
 pub is_same_spec : {M : Type 1} → statement M
 is_same_spec = tie.close (tie.spec
-    invariant_loop decreases_loop (λ c. sym (same_lengths c.before.args.word.now c.before.args.text.now (λ e. omega arith)))
+    invariant-loop-i decreases-loop-i (λ c. sym (same_lengths c.before.args.word.now c.before.args.text.now (λ e. omega arith)))
     (λ c. (omega arith, omega arith, refl)) (λ c. search rules) (λ c. search rules)
     (λ c. let p = c.before.before.before.before in let s = p.before.before in let w = s.args.word.now in
     let t = s.args.text.now in let i = p.loop.i in
-    sym (p.loop.invariant.2 ∙ differ w t i (omega arith) (omega arith) c.if2.true))
+    sym (p.loop.invariant.2 ∙ differ w t i (omega arith) (omega arith) c.if-word-i.true))
     (λ c. search rules) (λ c. search rules)
     (λ c. let p = c.before.before.before.before in let s = p.before.before in let w = s.args.word.now in
     let t = s.args.text.now in let i = p.loop.i in
-    (omega arith, omega arith, p.loop.invariant.2 ∙ rw add-one (same_front w t i (omega arith) (omega arith) c.if2.false)))
+    (omega arith, omega arith, p.loop.invariant.2 ∙ rw add-one (same_front w t i (omega arith) (omega arith) c.if-word-i.false)))
     (λ c. let w = c.before.before.before.args.word.now in let t = c.before.before.before.args.text.now in
-    sym (c.before.loop.invariant.2 ∙ same_ends w t c.before.loop.i (omega arith) (omega arith))))
+    sym (c.before.loop-i.invariant.2 ∙ same_ends w t c.before.loop-i.i (omega arith) (omega arith))))

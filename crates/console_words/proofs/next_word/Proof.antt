@@ -9,14 +9,14 @@ use Rattle.console_words.proofs.next_word.Tie as tie
 pub next_word_spec : {M : Type 1} → statement M
 next_word_spec = tie.close (tie.spec
     (λ c κs. search rules)
-    (λ c. c.before.skip_blanks.ensures.words_are
-    ∙ words_behind c.before.before.before.args.line.now c.before.skip_blanks.result (omega arith))
+    (λ c. c.before.skip_blanks-from.ensures.words_are
+    ∙ words_behind c.before.before.before.args.line.now c.before.skip_blanks-from.result (omega arith))
     (λ c κs. (
-      omega (arith, c.before.skip_blanks.ensures.fits),
-      c.before.skip_blanks.ensures.stops (omega (
+      omega (arith, c.before.skip_blanks-from.ensures.fits),
+      c.before.skip_blanks-from.ensures.stops (omega (
         arith,
-        c.before.skip_blanks.ensures.fits,
+        c.before.skip_blanks-from.ensures.fits,
       )),
     ))
-    (λ c. let s = c.before.before.skip_blanks.ensures in let w = c.word_end.ensures in
+    (λ c. let s = c.before.before.skip_blanks-from.ensures in let w = c.word_end.ensures in
     record { begins = s.begins; some = w.some; fits = w.fits; words_are = s.words_are ∙ w.words_are }))

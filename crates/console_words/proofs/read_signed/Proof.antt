@@ -10,16 +10,16 @@ use Rattle.console_words.proofs.read_signed.Tie as tie
 
 pub read_signed_spec : {M : Type 1} → statement M
 read_signed_spec = tie.close (tie.spec
-    (λ c. sym (no_sign _ c.if1.true)) (λ c. search rules) (λ c. search rules) (λ c. search rules) (λ c. search rules) (λ c κs. search rules)
+    (λ c. sym (no_sign _ c.if-word-eq0.true)) (λ c. search rules) (λ c. search rules) (λ c. search rules) (λ c. search rules) (λ c κs. search rules)
     (λ c κs. search rules)
     (λ c. let s = c.before.before.before.before.before.before.before in let w = s.args.word.now in
     c.plus.ensures ∙ ap plus (c.before.read_unsigned.ensures ∙ ap unsigned_of (rest_is w 1))
-    ∙ sym (plus_sign w (omega arith) c.before.before.before.if2.true))
+    ∙ sym (plus_sign w (omega arith) c.before.before.before.if-word-eq43.true))
     (λ c. search rules) (λ c. search rules) (λ c. search rules) (λ c. search rules) (λ c κs. search rules) (λ c κs. search rules)
     (λ c. let s = c.before.before.before.before.before.before.before.before.before in let w = s.args.word.now in
-    c.minus.ensures ∙ ap minus (c.before.read-unsigned2.ensures ∙ ap unsigned_of (rest_is w 1))
-    ∙ sym (minus_sign w (omega arith) c.before.before.before.if3.true))
+    c.minus.ensures ∙ ap minus (c.before.read_unsigned-then-word-eq45.ensures ∙ ap unsigned_of (rest_is w 1))
+    ∙ sym (minus_sign w (omega arith) c.before.before.before.if-word-eq45.true))
     (λ c κs. search rules) (λ c κs. search rules)
     (λ c. let i2 = c.before.before.before.before in let s = i2.before.before.before.before in let w = s.args.word.now in
-    c.plus2.ensures ∙ ap plus c.before.read-unsigned3.ensures
-    ∙ sym (unsigned_digits w (omega arith) i2.if2.false c.before.before.if3.false)))
+    c.plus-2.ensures ∙ ap plus c.before.read_unsigned-2.ensures
+    ∙ sym (unsigned_digits w (omega arith) i2.if2.false c.before.before.if-word-eq45.false)))

@@ -11,57 +11,57 @@ use Rattle.derive.proofs.Reaching.{Reached, reached_first, few_rows, reached_nex
 use Rattle.derive.proofs.run.Statement.{statement}
 use Rattle.derive.proofs.run.Tie as tie
 
-abbrev invariant_loop : tie.invariant_loop
-invariant_loop area₀ n count len level length₀ area length =
+abbrev invariant-loop-area : tie.invariant-loop-area
+invariant-loop-area area₀ n count len level length₀ area length =
     (list.length area ≡ list.length area₀) × ((lim : Limits) → Searchable lim area₀ n count len level → Reached lim area₀ area n count level len length)
 
-abbrev decreases_loop : tie.decreases_loop
-decreases_loop area₀ n count len level length₀ area length = n - length
+abbrev decreases-loop-area : tie.decreases-loop-area
+decreases-loop-area area₀ n count len level length₀ area length = n - length
 
-sizes : (c : tie.After-known-told2 invariant_loop decreases_loop) → Sizes c.before.before.before.before.before.before.before.args.level
-    c.before.found2.given.0.0 c.before.found2.given.0.1.1.0
+sizes : (c : tie.In-Forced invariant-loop-area decreases-loop-area) → Sizes c.before.before.before.before.before.before.before.args.level
+    c.before.found-in-Forced-1.given.0.0 c.before.found-in-Forced-1.given.0.1.1.0
 sizes c = let s = c.before.before.before.before.before.before.before in
-    forced_sizes (c.before.before.before.before.before.loop.invariant.1 s.requires.0 s.requires.1).searchable c.before.before.before.find.ensures
-    c.before.found2.given.1
+    forced_sizes (c.before.before.before.before.before.loop-area.invariant.1 s.requires.0 s.requires.1).searchable c.before.before.before.find-found.ensures
+    c.before.found-in-Forced-1.given.1
 
-loop_again : tie.Need-loop-preserved invariant_loop decreases_loop
+loop_again : tie.Need-loop-area-preserved invariant-loop-area decreases-loop-area
 loop_again c = let s = c.before.before.before.before.before.before.before.before.before.before.before in
     let p = s.requires in (
-      (reached_next (c.before.before.before.before.before.before.before.before.before.loop.invariant.1 p.0 p.1)
-          c.before.before.before.before.before.before.before.find.ensures c.before.before.before.before.before.found2.given.1 _
+      (reached_next (c.before.before.before.before.before.before.before.before.before.loop-area.invariant.1 p.0 p.1)
+          c.before.before.before.before.before.before.before.find-found.ensures c.before.before.before.before.before.found-in-Forced-1.given.1 _
           (c.before.before.advance.ensures p.0 s.args.level)).moved.size,
-      λ lim a. reached_next (c.before.before.before.before.before.before.before.before.before.loop.invariant.1 lim a)
-          c.before.before.before.before.before.before.before.find.ensures c.before.before.before.before.before.found2.given.1 _
+      λ lim a. reached_next (c.before.before.before.before.before.before.before.before.before.loop-area.invariant.1 lim a)
+          c.before.before.before.before.before.before.before.find-found.ensures c.before.before.before.before.before.found-in-Forced-1.given.1 _
           (c.before.before.advance.ensures lim s.args.level),
     )
 
 pub run_spec : {M : Type 1} → statement M
 run_spec = tie.close (tie.spec
-    invariant_loop decreases_loop (λ c. (refl, λ lim a. reached_first a))
+    invariant-loop-area decreases-loop-area (λ c. (refl, λ lim a. reached_first a))
     (λ c κs. let s = c.before.before.before in
-    record { lim = s.requires.0; len = c.before.loop.length; level = s.args.level; searchable = (c.before.loop.invariant.1 s.requires.0 s.requires.1).searchable })
+    record { lim = s.requires.0; len = c.before.loop-area.length; level = s.args.level; searchable = (c.before.loop-area.invariant.1 s.requires.0 s.requires.1).searchable })
     (λ c. search rules)
     (λ c κs. let s = c.before.before.before.before.before.before.before in
-    settleable (c.before.before.before.before.before.loop.invariant.1 s.requires.0 s.requires.1))
+    settleable (c.before.before.before.before.before.loop-area.invariant.1 s.requires.0 s.requires.1))
     (λ c. search rules)
-    (λ c. λ lim a. reached_still (c.before.before.before.before.before.before.before.before.loop.invariant.1 lim a)
-    c.before.before.before.before.before.before.find.ensures c.before.before.before.before.enum_told.given.1 _
+    (λ c. λ lim a. reached_still (c.before.before.before.before.before.before.before.before.loop-area.invariant.1 lim a)
+    c.before.before.before.before.before.before.find-found.ensures c.before.before.before.before.enum_told-1.given.1 _
     c.before.before.settle.ensures)
     (λ c. search rules)
     (λ c. let s = c.before.before.before.before.before.before.before in
-    let r = c.before.before.before.before.before.loop.invariant.1 s.requires.0 s.requires.1 in
-    omega (arith, (settleable r).sentences, c.before.before.before.find.ensures.conflict_inside _ c.before.found.given.1))
+    let r = c.before.before.before.before.before.loop-area.invariant.1 s.requires.0 s.requires.1 in
+    omega (arith, (settleable r).sentences, c.before.before.before.find-found.ensures.conflict_inside _ c.before.found-1.given.1))
     (λ c. search rules)
-    (λ c. λ lim a. reached_conflict (c.before.before.before.before.before.loop.invariant.1 lim a) c.before.before.before.find.ensures
-    c.before.found.given.1)
+    (λ c. λ lim a. reached_conflict (c.before.before.before.before.before.loop-area.invariant.1 lim a) c.before.before.before.find-found.ensures
+    c.before.found-1.given.1)
     (λ c. search rules) (λ c. let z = sizes c in omega arith) (λ c. let z = sizes c in omega arith) (λ c. let z = sizes c in omega arith)
     (λ c. let z = sizes c in omega arith) (λ c. let z = sizes c in omega arith)
     (λ c κs. let s = c.before.before.before.before.before.before.before.before in
     let p = s.requires in (
       p.0,
       s.args.level,
-      forced_advanceable (c.before.before.before.before.before.before.loop.invariant.1 p.0 p.1).searchable
-          c.before.before.before.before.find.ensures c.before.before.found2.given.1,
+      forced_advanceable (c.before.before.before.before.before.before.loop-area.invariant.1 p.0 p.1).searchable
+          c.before.before.before.before.find-found.ensures c.before.before.found-in-Forced-1.given.1,
     ))
     (λ c. let s = c.before.before.before.before.before.before.before.before.before.before.before in
     let r = (loop_again c).1 s.requires.0 s.requires.1 in omega (arith, few_rows r.searchable, (settleable r).atoms))

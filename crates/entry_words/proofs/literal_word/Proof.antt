@@ -8,18 +8,18 @@ use Rattle.entry_words.proofs.Signs.{size_is, sign_is, literal_negative, literal
 use Rattle.entry_words.proofs.literal_word.Statement.{statement}
 use Rattle.entry_words.proofs.literal_word.Tie as tie
 
-sized : (c : tie.After-size) → c.size.result ≡ nat_abs c.before.args.l
-sized c = size_is c.before.args.l c.size.result c.before.ranges.l c.size.ensures
+sized : (c : tie.After-size-size) → c.size-size.result ≡ nat_abs c.before.args.l
+sized c = size_is c.before.args.l c.size-size.result c.before.ranges.l c.size-size.ensures
 
-returns : tie.Need-returns
-returns c = literal_negative c.before.before.before.args.l c.before.before.size.result (sized c.before.before)
+returns : tie.Need-returns-then-negative
+returns c = literal_negative c.before.before.before.args.l c.before.before.size-size.result (sized c.before.before)
     (sign_is c.before.before.before.args.l c.before.negative.result true c.before.before.before.ranges.l
-    c.before.negative.ensures c.if1.true)
+    c.before.negative.ensures c.if-negative.true)
 
-returns_2 : tie.Need-returns-2
-returns_2 c = literal_positive c.before.before.before.args.l c.before.before.size.result (sized c.before.before)
+returns_2 : tie.Need-returns
+returns_2 c = literal_positive c.before.before.before.args.l c.before.before.size-size.result (sized c.before.before)
     (sign_is c.before.before.before.args.l c.before.negative.result false c.before.before.before.ranges.l
-    c.before.negative.ensures c.if1.false)
+    c.before.negative.ensures c.if-negative.false)
 
 pub literal_word_spec : {M : Type 1} → statement M
 literal_word_spec = tie.close (tie.spec

@@ -6,4 +6,4 @@ use Rattle.entry_words.proofs.mixing.Tie as tie
 
 pub mixing_spec : {M : Type 1} → statement M
 mixing_spec = tie.close (tie.spec
-    (λ c. search rules) (λ c. mixes_two _ c.if1.false))
+    (λ c. search rules) (λ c. mixes_two _ c.if-kind-eq-SUM.false))

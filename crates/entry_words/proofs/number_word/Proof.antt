@@ -8,18 +8,18 @@ use Rattle.entry_words.proofs.Signs.{size_is, sign_is, weight_negative, weight_p
 use Rattle.entry_words.proofs.number_word.Statement.{statement}
 use Rattle.entry_words.proofs.number_word.Tie as tie
 
-sized : (c : tie.After-size) → c.size.result ≡ nat_abs c.before.args.w
-sized c = size_is c.before.args.w c.size.result c.before.ranges.w c.size.ensures
+sized : (c : tie.After-size-size) → c.size-size.result ≡ nat_abs c.before.args.w
+sized c = size_is c.before.args.w c.size-size.result c.before.ranges.w c.size-size.ensures
 
-returns : tie.Need-returns
-returns c = weight_negative c.before.before.before.args.w c.before.before.size.result (sized c.before.before)
+returns : tie.Need-returns-then-negative
+returns c = weight_negative c.before.before.before.args.w c.before.before.size-size.result (sized c.before.before)
     (sign_is c.before.before.before.args.w c.before.negative.result true c.before.before.before.ranges.w
-    c.before.negative.ensures c.if1.true)
+    c.before.negative.ensures c.if-negative.true)
 
-returns_2 : tie.Need-returns-2
-returns_2 c = weight_positive c.before.before.before.args.w c.before.before.size.result (sized c.before.before)
+returns_2 : tie.Need-returns
+returns_2 c = weight_positive c.before.before.before.args.w c.before.before.size-size.result (sized c.before.before)
     (sign_is c.before.before.before.args.w c.before.negative.result false c.before.before.before.ranges.w
-    c.before.negative.ensures c.if1.false)
+    c.before.negative.ensures c.if-negative.false)
 
 pub number_word_spec : {M : Type 1} → statement M
 number_word_spec = tie.close (tie.spec

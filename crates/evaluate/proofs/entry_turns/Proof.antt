@@ -5,4 +5,4 @@ use Rattle.evaluate.proofs.entry_turns.Tie as tie
 
 pub entry_turns_spec : {M : Type 1} → statement M
 entry_turns_spec = tie.close (tie.spec
-    (λ c κs. c.before.requires c.if1.true) (λ c. rw (eq-eqb _ _ c.before.if1.true) c.turn.ensures) (λ c. rw (ne_eqb _ _ c.if1.false)))
+    (λ c κs. c.before.requires c.if-v-eq0.true) (λ c. rw (eq-eqb _ _ c.before.if-v-eq0.true) c.turn.ensures) (λ c. rw (ne_eqb _ _ c.if-v-eq0.false)))

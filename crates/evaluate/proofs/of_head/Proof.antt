@@ -5,5 +5,5 @@ use Rattle.evaluate.proofs.of_head.Tie as tie
 
 pub of_head_spec : {M : Type 1} → statement M
 of_head_spec = tie.close (tie.spec
-    (λ c. search rules) (λ c. rw c.if1.true) (λ c. search rules) (λ c. search rules) (λ c. rw (c.before.if1.false, c.if2.true))
+    (λ c. search rules) (λ c. rw c.if-holds.true) (λ c. search rules) (λ c. search rules) (λ c. rw (c.before.if-holds.false, c.if-fails.true))
     (λ c. search rules))

@@ -8,24 +8,24 @@ use Rattle.evaluate.proofs.Loops.{Scanning, scanning_starts, scanning_turns, sca
 use Rattle.evaluate.proofs.scan.Statement.{statement}
 use Rattle.evaluate.proofs.scan.Tie as tie
 
-abbrev invariant_loop : tie.invariant_loop
-invariant_loop area x n start count i₀ i = (i ≤ x.merged) × Scanning x area n i
+abbrev invariant-loop-i : tie.invariant-loop-i
+invariant-loop-i area x n start count i₀ i = (i ≤ x.merged) × Scanning x area n i
 
-abbrev decreases_loop : tie.decreases_loop
-decreases_loop area x n start count i₀ i = x.merged - i
+abbrev decreases-loop-i : tie.decreases-loop-i
+decreases-loop-i area x n start count i₀ i = x.merged - i
 
 pub scan_spec : {M : Type 1} → statement M
 scan_spec = tie.close (tie.spec
-    invariant_loop decreases_loop (λ c. (omega arith, scanning_starts c.before.requires.1)) (λ c κs. search entry_inside)
+    invariant-loop-i decreases-loop-i (λ c. (omega arith, scanning_starts c.before.requires.1)) (λ c κs. search entry_inside)
     (λ c κs. let s = c.before.before in
-    scanning_turns c.before.loop-test.true s.before.before.requires.0 s.loop.invariant.1 c.entry_in.ensures)
+    scanning_turns c.before.loop-i-test.true s.before.before.requires.0 s.loop-i.invariant.1 c.entry_in-e.ensures)
     (λ c κs. search rules)
     (λ c. let s = c.before.before.before.before.before in
-    scanning_found c.before.before.before.before.loop-test.true s.before.before.requires.0 s.loop.invariant.1 c.before.before.before.entry_in.ensures
-    c.before.before.entry_turns.ensures c.before.if1.true c.entry_wanted.ensures)
+    scanning_found c.before.before.before.before.loop-i-test.true s.before.before.requires.0 s.loop-i.invariant.1 c.before.before.before.entry_in-e.ensures
+    c.before.before.entry_turns.ensures c.before.if-entry_turns.true c.entry_wanted.ensures)
     (λ c. search rules) (λ c. search rules)
     (λ c. let s = c.before.before.before.before in
-    let next = scanning_next c.before.before.before.loop-test.true s.before.before.requires.0 s.loop.invariant.1 c.before.before.entry_in.ensures
-    c.before.entry_turns.ensures c.if1.false in
+    let next = scanning_next c.before.before.before.loop-i-test.true s.before.before.requires.0 s.loop-i.invariant.1 c.before.before.entry_in-e.ensures
+    c.before.entry_turns.ensures c.if-entry_turns.false in
     (omega arith, next))
-    (λ c. scanning_ends c.before.loop.invariant.1 (omega arith)))
+    (λ c. scanning_ends c.before.loop-i.invariant.1 (omega arith)))

@@ -13,21 +13,21 @@ settled_spec = tie.close (tie.spec
     (λ c κs. (omega arith, bound_high c.before.requires.0)) (λ c κs. search rules) (λ c κs. search rules) (λ c. λ e. absurd (true≢false (sym e)))
     (λ c. λ e.
     let s = c.before.before.before.before in
-    let value = rw c.before.before.before.head_at.ensures at c.before.before.value_at.ensures in
-    settled_open s.before.before.requires.0 s.before.before.requires.1 (sym value ∙ c.before.if1.true) (rw s.limit_at.ensures at c.if2.false) (rw s.limit_at.ensures at e))
+    let value = rw c.before.before.before.head_at-head.ensures at c.before.before.value_at-v.ensures in
+    settled_open s.before.before.requires.0 s.before.before.requires.1 (sym value ∙ c.before.if-v-eq0.true) (rw s.limit_at-limit.ensures at c.if-sure.false) (rw s.limit_at-limit.ensures at e))
     (λ c κs. search rules) (λ c κs. search rules)
     (λ c. λ e.
     let s = c.before.before.before.before.before.before.before in
     let v = c.before.before.before.before.before in
-    let value = rw v.before.head_at.ensures at v.value_at.ensures in
-    settled_fixed s.before.before.requires.0 s.before.before.requires.1 true (λ z. c.before.before.before.before.if1.false (value ∙ z))
-    (sym (rw (c.before.before.before.upper_at.ensures, value) at c.before.before.upwards.ensures) ∙ c.before.if3.true)
-    (rw s.limit_at.ensures at e) (rw s.limit_at.ensures at c.if4.true))
+    let value = rw v.before.head_at-head.ensures at v.value_at.ensures in
+    settled_fixed s.before.before.requires.0 s.before.before.requires.1 true (λ z. c.before.before.before.before.if-v-eq0.false (value ∙ z))
+    (sym (rw (c.before.before.before.upper_at.ensures, value) at c.before.before.upwards.ensures) ∙ c.before.if-upwards.true)
+    (rw s.limit_at-limit.ensures at e) (rw s.limit_at-limit.ensures at c.if-sure-2.true))
     (λ c. λ e. absurd (true≢false (sym e))) (λ c. λ e. absurd (true≢false (sym e)))
     (λ c. λ e.
     let s = c.before.before.before.before.before.before.before in
     let v = c.before.before.before.before.before in
-    let value = rw v.before.head_at.ensures at v.value_at.ensures in
-    settled_fixed s.before.before.requires.0 s.before.before.requires.1 false (λ z. c.before.before.before.before.if1.false (value ∙ z))
-    (sym (rw (c.before.before.before.upper_at.ensures, value) at c.before.before.upwards.ensures) ∙ c.before.if3.false)
-    (ap not (rw s.limit_at.ensures at c.if5.false)) (rw s.limit_at.ensures at e)))
+    let value = rw v.before.head_at-head.ensures at v.value_at.ensures in
+    settled_fixed s.before.before.requires.0 s.before.before.requires.1 false (λ z. c.before.before.before.before.if-v-eq0.false (value ∙ z))
+    (sym (rw (c.before.before.before.upper_at.ensures, value) at c.before.before.upwards.ensures) ∙ c.before.if-upwards.false)
+    (ap not (rw s.limit_at-limit.ensures at c.if-sure-3.false)) (rw s.limit_at-limit.ensures at e)))

@@ -6,14 +6,14 @@ use lib.ListN.{length}
 use Rattle.examples_test.proofs.open_all.Statement.{statement}
 use Rattle.examples_test.proofs.open_all.Tie as tie
 
-abbrev invariant_loop : tie.invariant_loop
-invariant_loop area₀ now₀ opened₀ code₀ turn₀ t8 area now opened code turn = (turn ≤ 1025) × (length area ≡ length area₀)
+abbrev invariant-loop-turn : tie.invariant-loop-turn
+invariant-loop-turn area₀ now₀ opened₀ code₀ turn₀ t8 area now opened code turn = (turn ≤ 1025) × (length area ≡ length area₀)
 
-abbrev decreases_loop : tie.decreases_loop
-decreases_loop area₀ now₀ opened₀ code₀ turn₀ t8 area now opened code turn = 1025 - turn
+abbrev decreases-loop-turn : tie.decreases-loop-turn
+decreases-loop-turn area₀ now₀ opened₀ code₀ turn₀ t8 area now opened code turn = 1025 - turn
 
 pub open_all_spec : {M : Type 1} → statement M
 open_all_spec = tie.close (tie.spec
-    invariant_loop decreases_loop (λ c κs. search rules) (λ c. search rules) (λ c κs. search rules) (λ c. search rules) (λ c. search rules) (λ c. search rules)
+    invariant-loop-turn decreases-loop-turn (λ c κs. search rules) (λ c. search rules) (λ c κs. search rules) (λ c. search rules) (λ c. search rules) (λ c. search rules)
     (λ c. search rules) (λ c κs. search rules) (λ c κs. search rules) (λ c κs. search rules) (λ c κs. search rules) (λ c κs. search rules)
     (λ c. search rules) (λ c. search rules))

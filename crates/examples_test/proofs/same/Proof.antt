@@ -5,13 +5,13 @@ use lib.ListN.{length}
 use Rattle.examples_test.proofs.same.Statement.{statement}
 use Rattle.examples_test.proofs.same.Tie as tie
 
-abbrev invariant_loop : tie.invariant_loop
-invariant_loop a b i₀ i = i ≤ length a
+abbrev invariant-loop-i : tie.invariant-loop-i
+invariant-loop-i a b i₀ i = i ≤ length a
 
-abbrev decreases_loop : tie.decreases_loop
-decreases_loop a b i₀ i = length a - i
+abbrev decreases-loop-i : tie.decreases-loop-i
+decreases-loop-i a b i₀ i = length a - i
 
 pub same_spec : {M : Type 1} → statement M
 same_spec = tie.close (tie.spec
-    invariant_loop decreases_loop (λ c. search rules) (λ c. search rules) (λ c. search rules) (λ c. search rules) (λ c. search rules) (λ c. search rules)
+    invariant-loop-i decreases-loop-i (λ c. search rules) (λ c. search rules) (λ c. search rules) (λ c. search rules) (λ c. search rules) (λ c. search rules)
     (λ c. search rules) (λ c. search rules) (λ c. search rules) (λ c. search rules) (λ c. search rules))

@@ -5,13 +5,13 @@ use lib.ListN.{length}
 use Rattle.examples_test.proofs.show_list.Statement.{statement}
 use Rattle.examples_test.proofs.show_list.Tie as tie
 
-abbrev invariant_loop : tie.invariant_loop
-invariant_loop list i₀ i = i ≤ length list
+abbrev invariant-loop-i : tie.invariant-loop-i
+invariant-loop-i list i₀ i = i ≤ length list
 
-abbrev decreases_loop : tie.decreases_loop
-decreases_loop list i₀ i = length list - i
+abbrev decreases-loop-i : tie.decreases-loop-i
+decreases-loop-i list i₀ i = length list - i
 
 pub show_list_spec : {M : Type 1} → statement M
 show_list_spec = tie.close (tie.spec
-    invariant_loop decreases_loop (λ c. search rules) (λ c κs. search rules) (λ c. search rules) (λ c. search rules) (λ c κs. search rules) (λ c. search rules)
+    invariant-loop-i decreases-loop-i (λ c. search rules) (λ c κs. search rules) (λ c. search rules) (λ c. search rules) (λ c κs. search rules) (λ c. search rules)
     (λ c. search rules) (λ c. search rules) (λ c κs. search rules) (λ c. search rules))

@@ -8,9 +8,9 @@ pub entry_in_spec : {M : Type 1} → statement M
 entry_in_spec = tie.close (tie.spec
     (λ c κs. search rules) (λ c κs. search rules) (λ c κs. search rules)
     (λ c. record {
-      weight_is = c.before.before.weight_in.ensures;
-      literal_is = c.before.literal_in.ensures;
-      value_is = rw c.before.literal_in.ensures at c.value_at.ensures;
+      weight_is = c.before.before.weight_in-weight.ensures;
+      literal_is = c.before.literal_in-literal.ensures;
+      value_is = rw c.before.literal_in-literal.ensures at c.value_at-value.ensures;
       real = omega arith;
       small = omega arith;
     }))

@@ -10,11 +10,11 @@ use Rattle.extremes.proofs.extremes_of.Tie as tie
 returns : tie.Need-returns
 returns c =
     let s = c.before.before.before.before.before in
-    let e = s.kind_of.ensures ∙ ap kind_of s.before.kind_at.ensures in
-    folds_extremes s.kind_of.result s.before.before.before.requires e
+    let e = s.kind_of-kind.ensures ∙ ap kind_of s.before.kind_at.ensures in
+    folds_extremes s.kind_of-kind.result s.before.before.before.requires e
     (rw (
-      c.before.merged_at.ensures,
-      c.before.before.entry_at.ensures,
+      c.before.merged_at-merged.ensures,
+      c.before.before.entry_at-start.ensures,
       c.before.before.before.start_of_lem.ensures,
       c.before.before.before.before.constant_at.ensures,
     ) at c.folds_by_kind.ensures)
@@ -23,7 +23,7 @@ pub extremes_of_spec : {M : Type 1} → statement M
 extremes_of_spec = tie.close (tie.spec
     (λ c κs. search rules) (λ c κs. search rules) (λ c κs. search rules) (λ c κs. search rules) (λ c κs. search rules) (λ c κs. search rules)
     (λ c κs. let s = c.before.before.before.before in
-    let e = s.kind_of.ensures ∙ ap kind_of s.before.kind_at.ensures in
-    rw (c.merged_at.ensures, c.before.entry_at.ensures, c.before.before.start_of_lem.ensures, c.before.before.before.constant_at.ensures)
-    (entries_at s.kind_of.result s.before.before.before.requires e, rooms_at s.kind_of.result s.before.before.before.requires e))
+    let e = s.kind_of-kind.ensures ∙ ap kind_of s.before.kind_at.ensures in
+    rw (c.merged_at-merged.ensures, c.before.entry_at-start.ensures, c.before.before.start_of_lem.ensures, c.before.before.before.constant_at.ensures)
+    (entries_at s.kind_of-kind.result s.before.before.before.requires e, rooms_at s.kind_of-kind.result s.before.before.before.requires e))
     returns)

@@ -9,23 +9,23 @@ use Rattle.extremes.proofs.Loops.{entry_inside, Foldings, foldings_start, foldin
 use Rattle.extremes.proofs.folds.Statement.{statement}
 use Rattle.extremes.proofs.folds.Tie as tie
 
-abbrev invariant_loop : tie.invariant_loop
-invariant_loop area kind first start count n none least₀ greatest₀ i₀ least greatest i =
+abbrev invariant-loop-i : tie.invariant-loop-i
+invariant-loop-i area kind first start count n none least₀ greatest₀ i₀ least greatest i =
     (i ≤ count) × Foldings kind area start count n first i least greatest × (none ≡ empty_word kind)
 
-abbrev decreases_loop : tie.decreases_loop
-decreases_loop area kind first start count n none least₀ greatest₀ i₀ least greatest i = count - i
+abbrev decreases-loop-i : tie.decreases-loop-i
+decreases-loop-i area kind first start count n none least₀ greatest₀ i₀ least greatest i = count - i
 
 pub folds_spec : {M : Type 1} → statement M
 folds_spec = tie.close (tie.spec
-    invariant_loop decreases_loop (λ c κs. search rules) (λ c. (omega arith, foldings_start c.before.before.requires.1, c.empty.ensures))
+    invariant-loop-i decreases-loop-i (λ c κs. search rules) (λ c. (omega arith, foldings_start c.before.before.requires.1, c.empty-none.ensures))
     (λ c κs. search entry_inside) (λ c κs. search rules)
     (λ c κs. let s = c.before.before.before in
-    foldings_step c.before.before.loop-test.true s.before.before.before.requires.0 s.loop.invariant.1 c.before.entry_in.ensures s.loop.invariant.2
-    c.reaches.ensures)
+    foldings_step c.before.before.loop-i-test.true s.before.before.before.requires.0 s.loop-i.invariant.1 c.before.entry_in-e.ensures s.loop-i.invariant.2
+    c.reaches-x.ensures)
     (λ c. search rules) (λ c. search rules)
     (λ c. let s = c.before.before.before.before in
-    let next = foldings_next c.before.before.before.loop-test.true s.before.before.before.requires.0 s.loop.invariant.1
-    c.before.before.entry_in.ensures s.loop.invariant.2 c.before.reaches.ensures c.step.ensures in
-    (omega arith, next, s.loop.invariant.2))
-    (λ c. foldings_end c.before.loop.invariant.1 (omega arith)))
+    let next = foldings_next c.before.before.before.loop-i-test.true s.before.before.before.requires.0 s.loop-i.invariant.1
+    c.before.before.entry_in-e.ensures s.loop-i.invariant.2 c.before.reaches-x.ensures c.step-both.ensures in
+    (omega arith, next, s.loop-i.invariant.2))
+    (λ c. foldings_end c.before.loop-i.invariant.1 (omega arith)))

@@ -5,5 +5,5 @@ use Rattle.extremes.proofs.furthest.Tie as tie
 
 pub furthest_spec : {M : Type 1} → statement M
 furthest_spec = tie.close (tie.spec
-    (λ c. rw c.before.if1.true (omega arith)) (λ c. rw c.before.if1.true (omega arith))
-    (λ c. rw c.before.if1.false (omega arith)) (λ c. rw c.before.if1.false (omega arith)))
+    (λ c. rw c.before.if-up.true (omega arith)) (λ c. rw c.before.if-up.true (omega arith))
+    (λ c. rw c.before.if-up.false (omega arith)) (λ c. rw c.before.if-up.false (omega arith)))

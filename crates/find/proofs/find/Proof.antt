@@ -15,24 +15,24 @@ use Rattle.find.proofs.Scan.{known_here, scanned_none, conflict_found, head_foun
 use Rattle.find.proofs.find.Statement.{statement}
 use Rattle.find.proofs.find.Tie as tie
 
-abbrev invariant_loop : tie.invariant_loop
-invariant_loop area n S found₀ s x start merged i₀ found i =
+abbrev invariant-loop-i : tie.invariant-loop-i
+invariant-loop-i area n S found₀ s x start merged i₀ found i =
     (i ≤ x.merged) × (found ≡ Nothing) × Entries area x.start x.merged n × Scanning x area n i
 
-abbrev decreases_loop : tie.decreases_loop
-decreases_loop area n S found₀ s x start merged i₀ found i = x.merged - i
+abbrev decreases-loop-i : tie.decreases-loop-i
+decreases-loop-i area n S found₀ s x start merged i₀ found i = x.merged - i
 
-abbrev invariant_sentences : tie.invariant_sentences
-invariant_sentences area n S found₀ s₀ found s = (s ≤ S) × (found ≡ Nothing) × SilentTo area n S s
+abbrev invariant-sentences : tie.invariant-sentences
+invariant-sentences area n S found₀ s₀ found s = (s ≤ S) × (found ≡ Nothing) × SilentTo area n S s
 
-abbrev decreases_sentences : tie.decreases_sentences
-decreases_sentences area n S found₀ s₀ found s = S - s
+abbrev decreases-sentences : tie.decreases-sentences
+decreases-sentences area n S found₀ s₀ found s = S - s
 
-sentences_again : tie.Need-sentences-preserved invariant_loop decreases_loop invariant_sentences decreases_sentences
+sentences_again : tie.Need-sentences-preserved invariant-loop-i decreases-loop-i invariant-sentences decreases-sentences
 sentences_again c =
     let a = c.before.before.before.before.before.args in
     let s = c.before.before.before.sentences.s in
-    let h : s < a.sentences = c.before.before.sentences_test.true in
+    let h : s < a.sentences = c.before.before.sentences-test.true in
     let inv = c.before.before.before.sentences.invariant in
     let known = c.before.Known-of.ensures in
     ⊎_elim
@@ -46,21 +46,21 @@ sentences_again c =
       x.5 ∙ x.3.inv.1,
       silent_next a.area.now a.n a.sentences s h inv.2 (scanned_none h inv.2 (known_here known x.1.given.1) x.3.inv.3 e),
     ))
-    c.match.branch
+    c.in-Conflict.branch
 
 pub find_spec : {M : Type 1} → statement M
 find_spec = tie.close (tie.spec
-    invariant_loop decreases_loop invariant_sentences decreases_sentences
+    invariant-loop-i decreases-loop-i invariant-sentences decreases-sentences
     (λ c. (omega arith, refl, silent_start c.before.args.area.now c.before.args.n c.before.args.sentences c.before.requires))
-    (λ c κs. (c.before.before.before.requires, c.sentences_test.true)) (λ c. search rules) (λ c. search rules) (λ c. search rules)
+    (λ c κs. (c.before.before.before.requires, c.sentences-test.true)) (λ c. search rules) (λ c. search rules) (λ c. search rules)
     (λ c. search rules)
-    (λ c. let k = known_here c.before.before.before.Known-of.ensures c.before.body.given.1 in
+    (λ c. let k = known_here c.before.before.before.Known-of.ensures c.before.body-1.given.1 in
     (omega arith, c.before.before.before.before.before.sentences.invariant.1, k.placed.entries, scanning_starts k.placed.turnable))
     (λ c κs. search entry_inside)
-    (λ c κs. let s = c.before.before.loop.invariant in scanning_turns c.before.loop-test.true s.2 s.3 c.entry_in.ensures)
+    (λ c κs. let s = c.before.before.loop-i.invariant in scanning_turns c.before.loop-i-test.true s.2 s.3 c.entry_in-e.ensures)
     (λ c. search rules) (λ c κs. search rules) (λ c. search rules) (λ c. search rules)
-    (λ c. let s = c.before.before.before.before.loop.invariant in
-    let next = scanning_next c.before.before.before.loop-test.true s.2 s.3 c.before.before.entry_in.ensures c.before.entry_turns.ensures c.if1.false in
+    (λ c. let s = c.before.before.before.before.loop-i.invariant in
+    let next = scanning_next c.before.before.before.loop-i-test.true s.2 s.3 c.before.before.entry_in-e.ensures c.before.entry_turns.ensures c.if-entry_turns.false in
     (omega arith, s.1, s.2, next))
     (λ c. search rules) (λ c. search rules) sentences_again
     (λ c. let a = c.before.before.before.args in
@@ -68,11 +68,11 @@ find_spec = tie.close (tie.spec
     let e : c.before.sentences.s ≡ a.sentences = omega arith in
     subst (FoundIs a.area.now a.n a.sentences) (sym i.1) (found_nothing a.area.now a.n a.sentences c.before.sentences.s e i.2))
     (λ c. let k = c.before.before in
-    conflict_found k.before.sentences_test.true k.before.before.sentences.invariant.2 (known_here k.Known-of.ensures c.enum-told2.given.1))
+    conflict_found k.before.sentences-test.true k.before.before.sentences.invariant.2 (known_here k.Known-of.ensures c.enum_told-in-Conflict-1.given.1))
     (λ c. let k = c.before.before.before in
-    head_found k.before.sentences_test.true k.before.before.sentences.invariant.2 _ (known_here k.Known-of.ensures c.before.l.given.1))
+    head_found k.before.sentences-test.true k.before.before.sentences.invariant.2 _ (known_here k.Known-of.ensures c.before.l-1.given.1))
     (λ c. let i = c.before.before.before.before.before in
     let k = i.before.before.before.before in
-    entry_found k.before.sentences_test.true k.before.before.sentences.invariant.2 (known_here k.Known-of.ensures i.before.before.body.given.1)
-    c.before.before.before.before.loop-test.true i.loop.invariant.3 c.before.before.before.entry_in.ensures
-    c.before.before.entry_turns.ensures c.before.if1.true c.entry_wanted.ensures))
+    entry_found k.before.sentences-test.true k.before.before.sentences.invariant.2 (known_here k.Known-of.ensures i.before.before.body-1.given.1)
+    c.before.before.before.before.loop-i-test.true i.loop.invariant.3 c.before.before.before.entry_in-e.ensures
+    c.before.before.entry_turns.ensures c.before.if-entry_turns.true c.entry_wanted-forced.ensures))

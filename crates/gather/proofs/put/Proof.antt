@@ -10,23 +10,23 @@ use Rattle.gather.proofs.put.Statement.{statement}
 use Rattle.gather.proofs.put.Tie as tie
 
 -- the place of the literal's entry
-abbrev place : tie.Else1 → ℕ
+abbrev place : tie.Else-p-eq0 → ℕ
 place c = get_or c.before.before.before.args.table.now c.before.before.before.args.l 0 - 1
 
-is_place : (c : tie.Else1) → get_or c.before.before.before.args.table.now c.before.before.before.args.l 0 ≡ suc (place c)
-is_place c = one_less (get_or c.before.before.before.args.table.now c.before.before.before.args.l 0) c.if1.false
+is_place : (c : tie.Else-p-eq0) → get_or c.before.before.before.args.table.now c.before.before.before.args.l 0 ≡ suc (place c)
+is_place c = one_less (get_or c.before.before.before.args.table.now c.before.before.before.args.l 0) c.if-p-eq0.false
 
-slice_write_part_3 : tie.Need-slice-write-part-3
+slice_write_part_3 : tie.Need-bounds-part-k-2
 slice_write_part_3 c = omega (arith, old_few c.before.before.before.before.before.requires (place c.before.before) (is_place c.before.before))
 
-returns_2 : tie.Need-returns-2
+returns_2 : tie.Need-returns
 returns_2 c = put_onto c.before.before.before.before.before.requires (place c.before.before) (is_place c.before.before) c.join.result c.join.ensures
 
 pub put_spec : {M : Type 1} → statement M
 put_spec = tie.close (tie.spec
     (λ c. search rules) (λ c. search rules) (λ c. omega (arith, slot_few c.before.before.requires)) (λ c. search rules) (λ c. search rules)
     (λ c. search rules) (λ c. search rules) (λ c. search rules) (λ c. search rules) (λ c. search rules) (λ c. search rules) (λ c. search rules)
-    (λ c. search rules) (λ c. search rules) (λ c. search rules) (λ c. search rules) (λ c. put_behind c.before.before.before.requires c.if1.true)
+    (λ c. search rules) (λ c. search rules) (λ c. search rules) (λ c. search rules) (λ c. put_behind c.before.before.before.requires c.if-p-eq0.true)
     (λ c. search rules) (λ c. omega (arith, slot_few c.before.before.before.requires))
     (λ c. omega (arith, slot_few c.before.before.before.requires))
     (λ c. omega (arith, old_few c.before.before.before.before.requires (place c.before) (is_place c.before)))

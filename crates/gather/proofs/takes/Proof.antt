@@ -20,5 +20,5 @@ taken_other (suc (suc (suc (suc k)))) b h = refl
 
 pub takes_spec : {M : Type 1} → statement M
 takes_spec = tie.close (tie.spec
-    (λ c. search rules) (λ c. search rules) (λ c. (taken_count c.before.before.args.kind _ c.if1.true, refl))
-    (λ c. (taken_other c.before.before.args.kind _ c.if1.false, refl)))
+    (λ c. search rules) (λ c. search rules) (λ c. (taken_count c.before.before.args.kind _ c.if-kind-eq-COUNT.true, refl))
+    (λ c. (taken_other c.before.before.args.kind _ c.if-kind-eq-COUNT.false, refl)))

@@ -10,5 +10,5 @@ advance_spec = tie.close (tie.spec
     (λ c κs. rw c.before.before.before.before.before.put.ensures
     (c.before.before.before.before.before.before.before.before.requires.0, search refresh_ready))
     (λ c. search rules)
-    (λ c. λ lim level a. advance_done lim _ _ _ _ level _ _ a _ c.before.before.before.before.before.only.ensures.1 _
+    (λ c. λ lim level a. advance_done lim _ _ _ _ level _ _ a _ c.before.before.before.before.before.only-touched.ensures.1 _
     (rw c.before.before.before.before.before.before.before.before.put.ensures at c.before.before.refresh.ensures)))

@@ -25,7 +25,7 @@ pub word_of_spec : {M : Type 1} → statement M
 word_of_spec = tie.close (tie.spec
     (λ c κs. search rules) (λ c. search rules) (λ c. search rules)
     (λ c. let s = c.before.before in negative_word s.args.literal s.args.size s.requires.0
-    (sym (ap {A = ℤ} is_negative (to_z-of_z w64 s.args.literal s.ranges.literal)) ∙ sym c.before.negative.ensures ∙ c.if1.true))
+    (sym (ap {A = ℤ} is_negative (to_z-of_z w64 s.args.literal s.ranges.literal)) ∙ sym c.before.negative.ensures ∙ c.if-negative.true))
     (λ c. search rules)
     (λ c. let s = c.before.before in natural_word s.args.literal s.args.size s.requires.0
-    (sym (ap {A = ℤ} is_negative (to_z-of_z w64 s.args.literal s.ranges.literal)) ∙ sym c.before.negative.ensures ∙ c.if1.false)))
+    (sym (ap {A = ℤ} is_negative (to_z-of_z w64 s.args.literal s.ranges.literal)) ∙ sym c.before.negative.ensures ∙ c.if-negative.false)))

@@ -33,7 +33,7 @@ literals_inside r vs is few = let e = literals_long r vs is in omega (arith, e)
 
 pub load_copied_spec : {M : Type 1} → statement M
 load_copied_spec = tie.close (tie.spec
-    (λ c. λ rs copy. let l = length_weights rs in many_refused document document.entries _ _ _ (omega arith) (omega (arith, l, copy.count_is, c.if1.true)))
+    (λ c. λ rs copy. let l = length_weights rs in many_refused document document.entries _ _ _ (omega arith) (omega (arith, l, copy.count_is, c.if-n-gt-MOST.true)))
     (λ c. let start = c.before.before.before.before.before.before.before.before.before in
     weights_inside start.args.copied _ start.well_formed.1.1.1.1.1.1.1.0 (omega arith))
     (λ c. let start = c.before.before.before.before.before.before.before.before.before.before in

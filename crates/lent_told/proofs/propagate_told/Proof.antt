@@ -16,6 +16,6 @@ told {a} {b} {w} {w'} {c} e = subst (λ (x : Propagated). Propagates document w 
 pub propagate_told_spec : {M : Type 1} → statement M
 propagate_told_spec = tie.close (tie.spec
     (λ c κs. search rules) (λ c. search rules) (λ c. search rules) (λ c. search rules) (λ c. search rules)
-    (λ c. (told c.before.answer.given.1 c.before.before.before.before.before.propagate.ensures).0) (λ c. search rules)
-    (λ c. (told c.before.answer2.given.1 c.before.before.before.before.before.propagate.ensures).0) (λ c. search rules)
-    (λ c. (told c.before.answer3.given.1 c.before.before.before.before.before.propagate.ensures).0))
+    (λ c. (told c.before.answer-1.given.1 c.before.before.before.before.before.propagate-answer.ensures).0) (λ c. search rules)
+    (λ c. (told c.before.answer-in-Still-1.given.1 c.before.before.before.before.before.propagate-answer.ensures).0) (λ c. search rules)
+    (λ c. (told c.before.answer-in-Conflict-1.given.1 c.before.before.before.before.before.propagate-answer.ensures).0))

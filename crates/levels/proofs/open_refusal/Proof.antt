@@ -6,4 +6,4 @@ use Rattle.levels.proofs.open_refusal.Tie as tie
 
 pub open_refusal_spec : {M : Type 1} → statement M
 open_refusal_spec =
-    tie.close (tie.spec (λ c w e. open_above c.before.before.args.lim w (omega (arith, c.if1.true))) (λ c w e. open_below c.before.before.args.lim w (omega (arith, c.if1.false))))
+    tie.close (tie.spec (λ c w e. open_above c.before.before.args.lim w (omega (arith, c.if-level-lim.true))) (λ c w e. open_below c.before.before.args.lim w (omega (arith, c.if-level-lim.false))))

@@ -11,17 +11,17 @@ use borrow.Author.Rules.{rules}
 use Rattle.levels.proofs.open_whole.Statement.{statement}
 use Rattle.levels.proofs.open_whole.Tie as tie
 
-code : (c : tie.After-open-refusal) → let s = c.before.before in
-    c.open_refusal.result ≡ refusal_code s.args.lim s.args.area.now open_level
-code c = c.open_refusal.ensures c.before.before.args.area.now c.before.before.requires.whole.level_is
+code : (c : tie.After-open_refusal-code) → let s = c.before.before in
+    c.open_refusal-code.result ≡ refusal_code s.args.lim s.args.area.now open_level
+code c = c.open_refusal-code.ensures c.before.before.args.area.now c.before.before.requires.whole.level_is
 
-returns_2 : tie.Need-returns-2
+returns_2 : tie.Need-returns
 returns_2 c = let s = c.before.before.before.before.before.before.before.before.before in
     let low : s.args.counters.level.0 < s.args.lim.levels =
     omega (
       arith,
       opens_below s.args.lim s.args.area.now
-          (sym (code c.before.before.before.before.before.before.before) ∙ c.before.before.before.before.before.before.if1.false),
+          (sym (code c.before.before.before.before.before.before.before) ∙ c.before.before.before.before.before.before.if-code-ne0.false),
       s.requires.whole.level_is,
     ) in
     search (open_raises, low)
@@ -29,5 +29,5 @@ returns_2 c = let s = c.before.before.before.before.before.before.before.before.
 pub open_whole_spec : {M : Type 1} → statement M
 open_whole_spec =
     tie.close
-    (tie.spec (λ c κs. search rules) (λ c. stops c.before.before.before.requires.whole (code c.before) c.if1.true) (λ c κs. search rules)
+    (tie.spec (λ c κs. search rules) (λ c. stops c.before.before.before.requires.whole (code c.before) c.if-code-ne0.true) (λ c κs. search rules)
     (λ c. search rules) (λ c κs. search rules) (λ c. search rules) (λ c. search rules) returns_2)

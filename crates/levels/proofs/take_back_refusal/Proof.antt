@@ -6,4 +6,4 @@ use Rattle.levels.proofs.take_back_refusal.Tie as tie
 
 pub take_back_refusal_spec : {M : Type 1} → statement M
 take_back_refusal_spec =
-    tie.close (tie.spec (λ c lim w e. back_above lim w _ (omega (arith, c.if1.true))) (λ c lim w e. back_below lim w _ (omega (arith, c.if1.false))))
+    tie.close (tie.spec (λ c lim w e. back_above lim w _ (omega (arith, c.if-k-level.true))) (λ c lim w e. back_below lim w _ (omega (arith, c.if-k-level.false))))

@@ -12,47 +12,47 @@ use Rattle.levels.proofs.Lowering.{take_back_stays, lowered_refreshable, take_ba
 use Rattle.levels.proofs.take_back_whole.Statement.{statement}
 use Rattle.levels.proofs.take_back_whole.Tie as tie
 
-code : (c : tie.After-take-back-refusal) → let s = c.before.before in
-    c.take_back_refusal.result ≡ refusal_code s.args.lim s.args.area.now (take_back s.args.k)
-code c = let s = c.before.before in c.take_back_refusal.ensures s.args.lim s.args.area.now s.requires.whole.level_is
+code : (c : tie.After-take_back_refusal-code) → let s = c.before.before in
+    c.take_back_refusal-code.result ≡ refusal_code s.args.lim s.args.area.now (take_back s.args.k)
+code c = let s = c.before.before in c.take_back_refusal-code.ensures s.args.lim s.args.area.now s.requires.whole.level_is
 
-below : (c : tie.Else1) → c.before.before.before.args.k ≤ c.before.before.before.args.counters.level.0
+below : (c : tie.Else-code-ne0) → c.before.before.before.args.k ≤ c.before.before.before.args.counters.level.0
 below c = let s = c.before.before.before in
-    omega (arith, goes_below s.args.lim s.args.area.now s.args.k (sym (code c.before) ∙ c.if1.false), s.requires.whole.level_is)
+    omega (arith, goes_below s.args.lim s.args.area.now s.args.k (sym (code c.before) ∙ c.if-code-ne0.false), s.requires.whole.level_is)
 
 refresh_requires : tie.Need-refresh-requires
 refresh_requires c κs = let s = c.before.before.before.before.before.before.before.before.before.before.before.before.before.before.before.before.before.before.before.before in
-    let e = c.before.before.before.before.before.before.before.before.before.before.before.before.before.before.atoms_of.ensures in
-    rw (e, c.before.before.before.before.before.before.before.before.before.before.before.before.sentences_of.ensures) (
+    let e = c.before.before.before.before.before.before.before.before.before.before.before.before.before.before.atoms_of-n.ensures in
+    rw (e, c.before.before.before.before.before.before.before.before.before.before.before.before.sentences_of-sentences.ensures) (
       s.args.lim,
       lowered_refreshable _ _ _ _ s.args.k s.requires.fitting s.requires.whole
           (omega (
             arith,
             below c.before.before.before.before.before.before.before.before.before.before.before.before.before.before.before.before.before,
-            c.before.before.before.before.before.before.before.before.before.before.before.before.before.before.before.before.if2.false,
+            c.before.before.before.before.before.before.before.before.before.before.before.before.before.before.before.before.if-k-level.false,
           )) _ _ _
-          (rw e at c.before.before.before.before.before.before.before.before.before.cut.ensures) _ (rw e at c.before.before.before.before.set_header.ensures),
+          (rw e at c.before.before.before.before.before.before.before.before.before.cut-left.ensures) _ (rw e at c.before.before.before.before.set_header.ensures),
     )
 
-returns_3 : tie.Need-returns-3
+returns_3 : tie.Need-returns
 returns_3 c = let s = c.before.before.before.before.before.before.before.before.before.before.before.before.before.before.before.before.before.before.before.before.before.before.before in
-    let e = c.before.before.before.before.before.before.before.before.before.before.before.before.before.before.before.before.before.atoms_of.ensures in
+    let e = c.before.before.before.before.before.before.before.before.before.before.before.before.before.before.before.before.before.atoms_of-n.ensures in
     take_back_lowers _ _ _ _ s.args.k s.requires.fitting s.requires.whole
     (omega (
       arith,
       below c.before.before.before.before.before.before.before.before.before.before.before.before.before.before.before.before.before.before.before.before,
-      c.before.before.before.before.before.before.before.before.before.before.before.before.before.before.before.before.before.before.before.if2.false,
+      c.before.before.before.before.before.before.before.before.before.before.before.before.before.before.before.before.before.before.before.if-k-level.false,
     )) _ _ _
-    (rw e at c.before.before.before.before.before.before.before.before.before.before.before.before.cut.ensures) _ _
+    (rw e at c.before.before.before.before.before.before.before.before.before.before.before.before.cut-left.ensures) _ _
     (rw e at c.before.before.before.before.before.before.before.set_header.ensures)
-    (rw (e, c.before.before.before.before.before.before.before.before.before.before.before.before.before.before.before.sentences_of.ensures) at c.before.before.refresh.ensures)
+    (rw (e, c.before.before.before.before.before.before.before.before.before.before.before.before.before.before.before.sentences_of-sentences.ensures) at c.before.before.refresh.ensures)
 
 pub take_back_whole_spec : {M : Type 1} → statement M
 take_back_whole_spec = tie.close (tie.spec
-    (λ c κs. search rules) (λ c. stops c.before.before.before.requires.whole (code c.before) c.if1.true)
+    (λ c κs. search rules) (λ c. stops c.before.before.before.requires.whole (code c.before) c.if-code-ne0.true)
     (λ c. search (take_back_stays, arith)) (λ c κs. search rules) (λ c κs. search rules) (λ c. search rules)
     (λ c κs. let s = c.before.before.before.before.before.before.before.before.before.before in
-    rw c.before.before.before.before.atoms_of.ensures
+    rw c.before.before.before.before.atoms_of-n.ensures
     (record { lim = s.args.lim; level = s.args.counters.level.0; standing = whole_stands _ _ _ _ s.requires.fitting s.requires.whole }, refl))
     (λ c κs. let l = below c.before.before.before.before.before.before.before.before.before.before.before.before in search rules)
     (λ c. search rules) refresh_requires (λ c. search rules) returns_3)

@@ -15,11 +15,11 @@ run_spec = tie.close (tie.spec
     (λ c. let c5 = c.before.before.before.before.before in let c14 = c5.before.before.before.before.before.before.before.before.before in
     prints _ (sym (refusal_printed c14.read_text.ensures refl refl c5.if1.true)) c.before.before.put_pair.ensures)
     (λ c. let c9 = c.before.before.before.before.before.before.before.before.before in let c10 = c9.before in
-    let r = c10.read_text in omega (arith, (answer_fits r.ensures c.before.if1.false).sentences, c9.heads2.given))
+    let r = c10.read_text in omega (arith, (answer_fits r.ensures c.before.if-r-ne0.false).sentences, c9.heads2.given))
     (λ c. let c10 = c.before.before.before.before.before.before.before.before.before.before in let c11 = c10.before in
-    let r = c11.read_text in sym (length-take-le r.result.sentences r.new.1.0 (omega (arith, (answer_fits r.ensures c.before.before.if1.false).sentences, c10.heads2.given))))
+    let r = c11.read_text in sym (length-take-le r.result.sentences r.new.1.0 (omega (arith, (answer_fits r.ensures c.before.before.if-r-ne0.false).sentences, c10.heads2.given))))
     (λ c. let c9 = c.before.before.before.before.before.before.before.before.before in let c11 = c9.before.before in
-    let r = c11.read_text in omega (arith, (answer_fits r.ensures c.before.before.if1.false).sentences, c9.kinds2.given))
+    let r = c11.read_text in omega (arith, (answer_fits r.ensures c.before.before.if-r-ne0.false).sentences, c9.kinds2.given))
     (λ c. let c3 = c.before.before.before in let c10 = c3.before.before.before.before.before.before.before in let c12 = c10.before.before in
     let r = c12.read_text in sym (length-take-le r.result.sentences r.new.1.1.0 (omega (arith, (answer_fits r.ensures c3.if1.false).sentences, c10.kinds2.given))))
     (λ c. let c3 = c.before.before.before in let c9 = c3.before.before.before.before.before.before in let c12 = c9.before.before.before in

@@ -11,4 +11,4 @@ put_row_spec = tie.close (tie.spec
     (λ c. search rules) (λ c κs. search rules) (λ c. search rules) (λ c κs. search rules) (λ c. search rules)
     (λ c. let s = c.before.before.before.before.before.before.before.before.before.before.before in
     then_pair (bytes " ") _ _ (named_put (bytes "t ") s.args.literal s.ranges.literal
-    c.before.before.before.before.before.before.before.put_named.ensures) c.before.before.put_pair.ensures))
+    c.before.before.before.before.before.before.before.put_named-behind.ensures) c.before.before.put_pair.ensures))

@@ -18,15 +18,15 @@ natural_sign : (l : ℤ) → is_negative l ≡ false → sign l ≡ 0
 natural_sign (pos a) e = refl
 natural_sign (negsuc a) e = cc
 
-returns : tie.Need-returns
+returns : tie.Need-returns-then-negative
 returns c = ap (λ s. 1 + s) (sym (negative_sign c.before.before.args.literal
     (sym (of_element is_negative c.before.before.args.literal c.before.before.ranges.literal) ∙ sym c.before.negative.ensures ∙
-    c.if1.true)))
+    c.if-negative.true)))
 
-returns_2 : tie.Need-returns-2
+returns_2 : tie.Need-returns
 returns_2 c = ap (λ s. 1 + s) (sym (natural_sign c.before.before.args.literal
     (sym (of_element is_negative c.before.before.args.literal c.before.before.ranges.literal) ∙ sym c.before.negative.ensures ∙
-    c.if1.false)))
+    c.if-negative.false)))
 
 pub mark_spec : {M : Type 1} → statement M
 mark_spec = tie.close (tie.spec

@@ -16,8 +16,8 @@ unmixing (suc (suc zero)) a b = absurd (b refl)
 unmixing (suc (suc (suc zero))) a b = refl
 unmixing (suc (suc (suc (suc k)))) a b = refl
 
-returns_3 : tie.Need-returns-3
-returns_3 c = rw (unmixing c.before.before.before.args.kind c.before.before.if1.false c.before.if2.false) c.both_signs.ensures
+returns_3 : tie.Need-returns
+returns_3 c = rw (unmixing c.before.before.before.args.kind c.before.before.if-kind-eq0.false c.before.if-kind-eq2.false) c.both_signs.ensures
 
 pub mixed_spec : {M : Type 1} → statement M
 mixed_spec = tie.close (tie.spec

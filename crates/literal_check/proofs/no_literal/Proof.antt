@@ -14,37 +14,37 @@ use Rattle.columns.proofs.Clauses.{told_atom, no_atom_zero, no_atom_high, an_ato
 use Rattle.literal_check.proofs.no_literal.Statement.{statement}
 use Rattle.literal_check.proofs.no_literal.Tie as tie
 
-abbrev invariant_loop : tie.invariant_loop
-invariant_loop n literals i₀ i = (i ≤ length literals) × (some_below i (λ k. outside n (atom (nth literals k))) ≡ false)
+abbrev invariant-loop-i : tie.invariant-loop-i
+invariant-loop-i n literals i₀ i = (i ≤ length literals) × (some_below i (λ k. outside n (atom (nth literals k))) ≡ false)
 
-abbrev decreases_loop : tie.decreases_loop
-decreases_loop n literals i₀ i = length literals - i
+abbrev decreases-loop-i : tie.decreases-loop-i
+decreases-loop-i n literals i₀ i = length literals - i
 
 -- the size of literal i is its atom
-known : (c : tie.After-size invariant_loop decreases_loop) → c.size.result ≡ atom (nth c.before.before.before.before.args.literals.now c.before.before.before.loop.i)
-known c = told_atom (nth c.before.before.before.before.args.literals.now c.before.before.before.loop.i) (record { sfits = c.before.l.given }) c.size.ensures
+known : (c : tie.After-size-a invariant-loop-i decreases-loop-i) → c.size-a.result ≡ atom (nth c.before.before.before.before.args.literals.now c.before.before.before.loop-i.i)
+known c = told_atom (nth c.before.before.before.before.args.literals.now c.before.before.before.loop-i.i) (record { sfits = c.before.l-1.given }) c.size-a.ensures
 
-returns : tie.Need-returns invariant_loop decreases_loop
-returns c = let k = known c.before in sym (some_here c.before.before.before.before.loop.i _ _ (omega arith) (no_atom_zero _ _ (sym k ∙ c.if1.true)))
+returns : tie.Need-returns-then-a-eq0 invariant-loop-i decreases-loop-i
+returns c = let k = known c.before in sym (some_here c.before.before.before.before.loop-i.i _ _ (omega arith) (no_atom_zero _ _ (sym k ∙ c.if-a-eq0.true)))
 
-returns_2 : tie.Need-returns-2 invariant_loop decreases_loop
+returns_2 : tie.Need-returns-then-a-n invariant-loop-i decreases-loop-i
 returns_2 c = let k = known c.before.before in
-    sym (some_here c.before.before.before.before.before.loop.i _ _ (omega arith)
+    sym (some_here c.before.before.before.before.before.loop-i.i _ _ (omega arith)
     (no_atom_high c.before.before.before.before.before.before.args.n (atom
-    (nth c.before.before.before.before.before.before.args.literals.now c.before.before.before.before.before.loop.i))
+    (nth c.before.before.before.before.before.before.args.literals.now c.before.before.before.before.before.loop-i.i))
     (omega arith)))
 
-loop_again : tie.Need-loop-preserved invariant_loop decreases_loop
+loop_again : tie.Need-loop-i-preserved invariant-loop-i decreases-loop-i
 loop_again c = let k = known c.before.before in (
   omega arith,
-  some_more _ _ c.before.before.before.before.before.loop.invariant.1
-      (an_atom _ _ (λ e. c.before.if1.false (k ∙ e)) (omega arith)),
+  some_more _ _ c.before.before.before.before.before.loop-i.invariant.1
+      (an_atom _ _ (λ e. c.before.if-a-eq0.false (k ∙ e)) (omega arith)),
 )
 
-returns_3 : tie.Need-returns-3 invariant_loop decreases_loop
-returns_3 c = let e : c.before.loop.i ≡ length c.before.before.args.literals.now = omega arith in rw e at (sym c.before.loop.invariant.1)
+returns_3 : tie.Need-returns invariant-loop-i decreases-loop-i
+returns_3 c = let e : c.before.loop-i.i ≡ length c.before.before.args.literals.now = omega arith in rw e at (sym c.before.loop-i.invariant.1)
 
 pub no_literal_spec : {M : Type 1} → statement M
 no_literal_spec = tie.close (tie.spec
-    invariant_loop decreases_loop (λ c. (omega arith, some_none _)) (λ c. search rules) (λ c. search rules) (λ c κs. search rules) returns returns_2
+    invariant-loop-i decreases-loop-i (λ c. (omega arith, some_none _)) (λ c. search rules) (λ c. search rules) (λ c κs. search rules) returns returns_2
     (λ c. search rules) (λ c. search rules) loop_again returns_3)

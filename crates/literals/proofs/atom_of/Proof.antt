@@ -10,8 +10,8 @@ use Rattle.literals.proofs.Atoms.{atom_high, atom_small}
 use Rattle.literals.proofs.atom_of.Statement.{statement}
 use Rattle.literals.proofs.atom_of.Tie as tie
 
-told_size : (c : tie.After-size) → c.size.result ≡ atom c.before.args.literal
-told_size c = let s = c.before in c.size.ensures ∙ ap {A = ℤ} atom (to_z-of_z w64 s.args.literal s.ranges.literal)
+told_size : (c : tie.After-size-size) → c.size-size.result ≡ atom c.before.args.literal
+told_size c = let s = c.before in c.size-size.ensures ∙ ap {A = ℤ} atom (to_z-of_z w64 s.args.literal s.ranges.literal)
 
 pub atom_of_spec : {M : Type 1} → statement M
 atom_of_spec = tie.close (tie.spec

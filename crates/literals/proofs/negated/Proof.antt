@@ -10,5 +10,5 @@ use Rattle.literals.proofs.negated.Tie as tie
 pub negated_spec : {M : Type 1} → statement M
 negated_spec = tie.close (tie.spec
     (λ c. search rules) (λ c κs. search rules)
-    (λ c. to_z-of_z w64 c.literal_of.result (search rules) ∙ c.literal_of.ensures ∙ negated_even _ c.before.if1.true) (λ c. search rules)
-    (λ c κs. search rules) (λ c. to_z-of_z w64 c.literal-of2.result (search rules) ∙ c.literal-of2.ensures ∙ negated_odd _ c.before.if1.false))
+    (λ c. to_z-of_z w64 c.literal_of.result (search rules) ∙ c.literal_of.ensures ∙ negated_even _ c.before.if-x-eq0.true) (λ c. search rules)
+    (λ c κs. search rules) (λ c. to_z-of_z w64 c.literal_of-2.result (search rules) ∙ c.literal_of-2.ensures ∙ negated_odd _ c.before.if-x-eq0.false))

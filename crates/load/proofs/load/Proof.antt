@@ -16,8 +16,8 @@ returns c = let s = c.before.before.before.before in
     s.before.before.before.before.before.before.args.kinds.now s.before.before.before.before.before.before.args.sides.now
     s.before.before.before.before.before.before.args.bounds.now s.before.before.before.before.before.before.args.counts.now
     s.before.before.before.before.before.before.args.weights.now s.before.before.before.before.before.before.args.literals.now)
-    c.before.before.load_within.result) s.document.ensures c.before.before.load_within.ensures
+    c.before.before.load_within.result) s.document-lim.ensures c.before.before.load_within.ensures
 
 pub load_spec : {M : Type 1} → statement M
 load_spec = tie.close (tie.spec
-    (λ c κs. search rules) (λ c κs. subst Fitting (sym c.before.document.ensures) base_fits) (λ c. search rules) returns)
+    (λ c κs. search rules) (λ c κs. subst Fitting (sym c.before.document-lim.ensures) base_fits) (λ c. search rules) returns)

@@ -14,13 +14,13 @@ use Rattle.load.proofs.load_within.Tie as tie
 abbrev cols : (c : tie.Start) → Columns
 cols c = seven_columns c.args.heads.now c.args.kinds.now c.args.sides.now c.args.bounds.now c.args.counts.now c.args.weights.now c.args.literals.now
 
-ok : (c : tie.Else1) → let s = c.before.before.before.before.before.before.before in
+ok : (c : tie.Else-code-ne0) → let s = c.before.before.before.before.before.before.before in
     Accepted s.args.lim (length s.args.area.now) s.args.atoms.0 (cols (s))
 ok c =
     let b = c.before.before.before.before.before.before.before in
-    accepted b.args.lim (length b.args.area.now) b.args.atoms.0 (cols b) (ap (λ (a : Answer). a.code) (sym c.before.refusal.ensures) ∙ c.if1.false)
+    accepted b.args.lim (length b.args.area.now) b.args.atoms.0 (cols b) (ap (λ (a : Answer). a.code) (sym c.before.refusal-answer.ensures) ∙ c.if-code-ne0.false)
 
-store_all_requires : tie.Need-store-all-requires
+store_all_requires : tie.Need-store_all-requires
 store_all_requires c κs =
     let b = c.before.before.before.before.before.before.before.before in
     record { lim = b.args.lim; fitting = b.requires; accepted = ok c.before }
@@ -33,14 +33,14 @@ refresh_requires c κs =
           (cols b) b.requires (ok c.before.before.before.before.before.before) c.before.before.before.before.store_all.ensures _ refl,
     )
 
-returns_2 : tie.Need-returns-2
+returns_2 : tie.Need-returns
 returns_2 c =
     let b = c.before.before.before.before.before.before.before.before.before.before.before.before.before.before.before.before in
     let told = c.before.before.before.before.before.before.before.before.before in
     let stored = c.before.before.before.before.before.before.before.store_all in
     let renewed = c.before.before.refresh in
     record {
-      answer_is = told.before.refusal.ensures;
+      answer_is = told.before.refusal-answer.ensures;
       refused = λ d. absurd (d told.if1.false);
       accepted = λ _. loaded b.args.lim b.args.area.now stored.new.0 b.args.atoms.0 (cols b) b.requires (ok told) stored.ensures
           renewed.new.0 _ (λ a h. get_or-replicate 4097 a 1 0 (omega arith)) renewed.ensures;
@@ -48,5 +48,5 @@ returns_2 c =
 
 pub load_within_spec : {M : Type 1} → statement M
 load_within_spec = tie.close (tie.spec
-    (λ c κs. search rules) (λ c. record { answer_is = c.before.refusal.ensures; refused = λ _. refl; accepted = λ e. absurd (c.if1.true e) })
+    (λ c κs. search rules) (λ c. record { answer_is = c.before.refusal-answer.ensures; refused = λ _. refl; accepted = λ e. absurd (c.if-code-ne0.true e) })
     store_all_requires (λ c. search rules) refresh_requires (λ c. search rules) returns_2)

@@ -19,61 +19,61 @@ use Rattle.columns.proofs.Walk.{answer_from, from_first, from_here, from_later, 
 use Rattle.load_check.proofs.first_refused.Statement.{statement}
 use Rattle.load_check.proofs.first_refused.Tie as tie
 
-abbrev invariant_loop : tie.invariant_loop
-invariant_loop lim n heads kinds sides bounds counts weights literals s₀ from₀ s from = (s ≤ length heads) × (from ≤ length weights) × (from ≡ sum_first counts s)
+abbrev invariant-loop-s : tie.invariant-loop-s
+invariant-loop-s lim n heads kinds sides bounds counts weights literals s₀ from₀ s from = (s ≤ length heads) × (from ≤ length weights) × (from ≡ sum_first counts s)
     × (first_refusal (all_refusals lim n 1 (all_written (seven_columns heads kinds sides bounds counts weights literals))) ≡ answer_from lim n (seven_columns heads kinds sides bounds counts weights literals) s)
 
-abbrev decreases_loop : tie.decreases_loop
-decreases_loop lim n heads kinds sides bounds counts weights literals s₀ from₀ s from = length heads - s
+abbrev decreases-loop-s : tie.decreases-loop-s
+decreases-loop-s lim n heads kinds sides bounds counts weights literals s₀ from₀ s from = length heads - s
 
-abbrev cols : (c : tie.Start invariant_loop decreases_loop) → Columns
+abbrev cols : (c : tie.Start invariant-loop-s decreases-loop-s) → Columns
 cols c = seven_columns c.args.heads.now c.args.kinds.now c.args.sides.now c.args.bounds.now c.args.counts.now c.args.weights.now c.args.literals.now
 
 -- sentence s stands within the columns
-here : (c : tie.In-loop invariant_loop decreases_loop) → Inside (cols c.before.before.before.before.before.before) c.before.loop.s c.before.loop.from
+here : (c : tie.In-loop-s invariant-loop-s decreases-loop-s) → Inside (cols c.before.before.before.before.before.before) c.before.loop-s.s c.before.loop-s.from
 here c = let s = c.before.before.before.before.before.before in
-    inside s.args.lim s.args.n (cols s) c.before.loop.s c.before.loop.from s.requires.1 c.loop-test.true
-    c.before.loop.invariant.2
+    inside s.args.lim s.args.n (cols s) c.before.loop-s.s c.before.loop-s.from s.requires.1 c.loop-s-test.true
+    c.before.loop-s.invariant.2
 
-told : (c : tie.After-sentence-refusal invariant_loop decreases_loop) → let s = c.before.before.before.before.before.before.before.before.before.before.before.before.before.before in
-    c.sentence_refusal.result ≡ sentence_code s.args.lim s.args.n (written_at (cols s) c.before.before.before.before.before.before.before.before.before.loop.s)
+told : (c : tie.After-sentence_refusal-code invariant-loop-s decreases-loop-s) → let s = c.before.before.before.before.before.before.before.before.before.before.before.before.before.before in
+    c.sentence_refusal-code.result ≡ sentence_code s.args.lim s.args.n (written_at (cols s) c.before.before.before.before.before.before.before.before.before.loop-s.s)
 told c =
     let s = c.before.before.before.before.before.before.before.before.before.before.before.before.before.before in
-    let l = c.before.before.before.before.before.before.before.before.before.loop in
+    let l = c.before.before.before.before.before.before.before.before.before.loop-s in
     let cs = cols s in
-    c.sentence_refusal.ensures
+    c.sentence_refusal-code.ensures
     ∙ same_sentence s.args.lim s.args.n cs l.s (to_z w64 (of_z w64 (nth cs.bounds l.s))) l.from (l.from + get_or cs.counts l.s 0 - l.from)
-    (to_z-of_z w64 (nth cs.bounds l.s) (record { sfits = c.before.before.before.sentence-refusal-arg.given })) l.invariant.2 (omega arith) s.requires.1.equals.literals
+    (to_z-of_z w64 (nth cs.bounds l.s) (record { sfits = c.before.before.before.sentence_refusal-arg-1.given })) l.invariant.2 (omega arith) s.requires.1.equals.literals
 
-loop_holds : tie.Need-loop-init invariant_loop decreases_loop
+loop_holds : tie.Need-loop-s-init invariant-loop-s decreases-loop-s
 loop_holds c = let s = c.before.before.before.before in (omega arith, omega arith, sym (sum_none _), from_first s.args.lim s.args.n (cols s) 0 refl)
 
-returns : tie.Need-returns invariant_loop decreases_loop
+returns : tie.Need-returns-then-code-ne0 invariant-loop-s decreases-loop-s
 returns c =
     let s = c.before.before.before.before.before.before.before.before.before.before.before.before.before.before.before in
-    let l = c.before.before.before.before.before.before.before.before.before.before.loop in
+    let l = c.before.before.before.before.before.before.before.before.before.before.loop-s in
     sym (l.invariant.3 ∙ from_here s.args.lim s.args.n (cols s) l.s
-    c.before.before.before.before.before.before.before.before.before.loop-test.true (λ e. c.if1.true (told c.before ∙ e))
+    c.before.before.before.before.before.before.before.before.before.loop-s-test.true (λ e. c.if-code-ne0.true (told c.before ∙ e))
     ∙ ap {A = ℕ} (λ k. answer k (l.s + 1)) (sym (told c.before)))
 
-loop_again : tie.Need-loop-preserved invariant_loop decreases_loop
+loop_again : tie.Need-loop-s-preserved invariant-loop-s decreases-loop-s
 loop_again c =
     let s = c.before.before.before.before.before.before.before.before.before.before.before.before.before.before.before in
-    let l = c.before.before.before.before.before.before.before.before.before.before.loop in
+    let l = c.before.before.before.before.before.before.before.before.before.before.loop-s in
     let k = here c.before.before.before.before.before.before.before.before.before in (
       omega arith,
       omega (arith, k.weights),
       sym k.next,
       l.invariant.3 ∙ from_later s.args.lim s.args.n (cols s) l.s
-          c.before.before.before.before.before.before.before.before.before.loop-test.true (sym (told c.before) ∙ c.if1.false),
+          c.before.before.before.before.before.before.before.before.before.loop-s-test.true (sym (told c.before) ∙ c.if-code-ne0.false),
     )
 
-returns_2 : tie.Need-returns-2 invariant_loop decreases_loop
-returns_2 c = let s = c.before.before.before.before.before.before in sym (c.before.loop.invariant.3 ∙ from_none s.args.lim s.args.n (cols s) c.before.loop.s (omega arith))
+returns_2 : tie.Need-returns invariant-loop-s decreases-loop-s
+returns_2 c = let s = c.before.before.before.before.before.before in sym (c.before.loop-s.invariant.3 ∙ from_none s.args.lim s.args.n (cols s) c.before.loop-s.s (omega arith))
 
 pub first_refused_spec : {M : Type 1} → statement M
 first_refused_spec = tie.close (tie.spec
-    invariant_loop decreases_loop loop_holds (λ c. search rules) (λ c. search rules) (λ c. let k = here c.before in omega (arith, k.weights))
+    invariant-loop-s decreases-loop-s loop_holds (λ c. search rules) (λ c. search rules) (λ c. let k = here c.before in omega (arith, k.weights))
     (λ c. search rules) (λ c. search rules) (λ c. search rules) (λ c. search rules) (λ c. search rules) (λ c. search rules) (λ c. search rules)
     (λ c. search rules) (λ c. search rules) (λ c. search rules) (λ c. search rules)
     (λ c. let k = here c.before.before.before.before.before in omega (arith, k.weights)) (λ c. search rules) (λ c. search rules)

@@ -5,13 +5,13 @@ use lib.ListN.{length}
 use Rattle.load_test.proofs.list.Statement.{statement}
 use Rattle.load_test.proofs.list.Tie as tie
 
-abbrev invariant_loop : tie.invariant_loop
-invariant_loop area i₀ t3 i = i ≤ length area
+abbrev invariant-loop-i : tie.invariant-loop-i
+invariant-loop-i area i₀ t3 i = i ≤ length area
 
-abbrev decreases_loop : tie.decreases_loop
-decreases_loop area i₀ t3 i = length area - i
+abbrev decreases-loop-i : tie.decreases-loop-i
+decreases-loop-i area i₀ t3 i = length area - i
 
 pub list_spec : {M : Type 1} → statement M
 list_spec = tie.close (tie.spec
-    invariant_loop decreases_loop (λ c. search rules) (λ c. search rules) (λ c. search rules) (λ c κs. search rules) (λ c. search rules) (λ c κs. search rules)
+    invariant-loop-i decreases-loop-i (λ c. search rules) (λ c. search rules) (λ c. search rules) (λ c κs. search rules) (λ c. search rules) (λ c κs. search rules)
     (λ c. search rules) (λ c. search rules) (λ c. search rules) (λ c. search rules))

@@ -12,33 +12,33 @@ use borrow.Author.Rules.{rules}
 use Rattle.located.proofs.locate.Statement.{statement}
 use Rattle.located.proofs.locate.Tie as tie
 
-told : (c : tie.After-atom-of) → let s = c.before.before.before.before in
-    AtomOf (atoms_of s.args.area.now) s.args.literal c.atom_of.result
+told : (c : tie.After-atom_of-atom) → let s = c.before.before.before.before in
+    AtomOf (atoms_of s.args.area.now) s.args.literal c.atom_of-atom.result
 told c = let s = c.before.before.before.before in
-    rw c.before.before.atoms_of.ensures at (told_atom s.args.literal s.ranges.literal c.atom_of.ensures)
+    rw c.before.before.atoms_of-n.ensures at (told_atom s.args.literal s.ranges.literal c.atom_of-atom.ensures)
 
-position : (c : tie.After-position-of) → let s = c.before.before.before.before.before.before in
-    PositionIs s.args.area.now (atoms_of s.args.area.now) s.args.literal (length_of s.args.area.now) c.position_of.result
+position : (c : tie.After-position_of-position) → let s = c.before.before.before.before.before.before in
+    PositionIs s.args.area.now (atoms_of s.args.area.now) s.args.literal (length_of s.args.area.now) c.position_of-position.result
 position c = let s = c.before.before.before.before.before.before in
-    rw (to_z-of_z w64 s.args.literal s.ranges.literal, c.before.before.before.before.atoms_of.ensures, c.before.before.before.length_of.ensures) at
-    c.position_of.ensures
+    rw (to_z-of_z w64 s.args.literal s.ranges.literal, c.before.before.before.before.atoms_of-n.ensures, c.before.before.before.length_of-rows.ensures) at
+    c.position_of-position.ensures
 
-returns_2 : tie.Need-returns-2
+returns_2 : tie.Need-returns-then-position-rows
 returns_2 c = record {
   found = λ e. let b : ⊥ = omega arith in absurd b;
   refused = λ _. inr (
     refl,
-    ((told c.before.before.before).some c.before.before.if1.false).known,
-    (position c.before).absent (c.if2.true ∙ c.before.before.before.before.length_of.ensures),
+    ((told c.before.before.before).some c.before.before.if-atom-eq0.false).known,
+    (position c.before).absent (c.if-position-rows.true ∙ c.before.before.before.before.length_of-rows.ensures),
   );
 }
 
-returns_3 : tie.Need-returns-3
+returns_3 : tie.Need-returns
 returns_3 c = record {
   found = λ _. record {
-    known = ((told c.before.before.before).some c.before.before.if1.false).known;
+    known = ((told c.before.before.before).some c.before.before.if-atom-eq0.false).known;
     position = position c.before;
-    inside = omega (arith, (position c.before).few, c.before.before.before.before.length_of.ensures, c.if2.false);
+    inside = omega (arith, (position c.before).few, c.before.before.before.before.length_of-rows.ensures, c.if-position-rows.false);
   };
   refused = λ d. absurd (d refl);
 }
@@ -46,9 +46,9 @@ returns_3 c = record {
 pub locate_spec : {M : Type 1} → statement M
 locate_spec = tie.close (tie.spec
     (λ c κs. search rules) (λ c κs. search rules) (λ c κs. search rules)
-    (λ c. record { found = λ e. let b : ⊥ = omega arith in absurd b; refused = λ _. inl (refl, (told c.before).none c.if1.true) })
+    (λ c. record { found = λ e. let b : ⊥ = omega arith in absurd b; refused = λ _. inl (refl, (told c.before).none c.if-atom-eq0.true) })
     (λ c κs. (
-      rw (c.before.before.before.atoms_of.ensures, c.before.before.length_of.ensures) c.before.before.before.before.before.requires,
-      c.before.atom_of.ensures.some c.if1.false,
+      rw (c.before.before.before.atoms_of-n.ensures, c.before.before.length_of-rows.ensures) c.before.before.before.before.before.requires,
+      c.before.atom_of-atom.ensures.some c.if-atom-eq0.false,
     ))
     returns_2 returns_3)

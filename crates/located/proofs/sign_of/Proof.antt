@@ -25,6 +25,6 @@ pub sign_of_spec : {M : Type 1} → statement M
 sign_of_spec = tie.close (tie.spec
     (λ c κs. search rules)
     (λ c. let s = c.before.before in
-    sign_one s.args.literal (told_negative c.before ∙ c.if1.true))
+    sign_one s.args.literal (told_negative c.before ∙ c.if-negative.true))
     (λ c. let s = c.before.before in
-    sign_none s.args.literal (told_negative c.before ∙ c.if1.false)))
+    sign_none s.args.literal (told_negative c.before ∙ c.if-negative.false)))

@@ -8,34 +8,34 @@ use Rattle.merge.proofs.Sifting.{Sifting, sift_none, sift_drop, sift_keep}
 use Rattle.merge.proofs.sift.Statement.{statement}
 use Rattle.merge.proofs.sift.Tie as tie
 
-abbrev invariant_loop : tie.invariant_loop
-invariant_loop part₀ count m₀ k₀ part m k = (m ≤ k) × (k ≤ count) × (length part ≡ length part₀) × Sifting part₀ part k m
+abbrev invariant-loop-k : tie.invariant-loop-k
+invariant-loop-k part₀ count m₀ k₀ part m k = (m ≤ k) × (k ≤ count) × (length part ≡ length part₀) × Sifting part₀ part k m
 
-abbrev decreases_loop : tie.decreases_loop
-decreases_loop part₀ count m₀ k₀ part m k = count - k
+abbrev decreases-loop-k : tie.decreases-loop-k
+decreases-loop-k part₀ count m₀ k₀ part m k = count - k
 
-slice_write_part_2 : tie.Need-slice-write-part-2 invariant_loop decreases_loop
-slice_write_part_2 c = simp length-set (omega (arith, c.before.before.before.before.loop.invariant.0, c.before.before.before.before.loop.invariant.2))
+slice_write_part_2 : tie.Need-bounds-part-m-then-x-ne-HALF invariant-loop-k decreases-loop-k
+slice_write_part_2 c = simp length-set (omega (arith, c.before.before.before.before.loop-k.invariant.0, c.before.before.before.before.loop-k.invariant.2))
 
-loop_again : tie.Need-loop-preserved invariant_loop decreases_loop
+loop_again : tie.Need-loop-k-preserved-then-x-ne-HALF invariant-loop-k decreases-loop-k
 loop_again c = let s = c.before.before.before.before in (
   omega arith,
   omega arith,
-  simp length-set s.loop.invariant.2,
-  sift_keep s.loop.invariant.3 (omega (arith, s.before.requires.0)) s.loop.invariant.2
-      c.if1.true,
+  simp length-set s.loop-k.invariant.2,
+  sift_keep s.loop-k.invariant.3 (omega (arith, s.before.requires.0)) s.loop-k.invariant.2
+      c.if-x-ne-HALF.true,
 )
 
-loop_again_2 : tie.Need-loop-preserved-2 invariant_loop decreases_loop
+loop_again_2 : tie.Need-loop-k-preserved invariant-loop-k decreases-loop-k
 loop_again_2 c = let s = c.before.before.before.before in
-    (omega arith, omega arith, s.loop.invariant.2, sift_drop s.loop.invariant.3 (omega (arith, s.before.requires.0)) c.if1.false)
+    (omega arith, omega arith, s.loop-k.invariant.2, sift_drop s.loop-k.invariant.3 (omega (arith, s.before.requires.0)) c.if-x-ne-HALF.false)
 
-returns : tie.Need-returns invariant_loop decreases_loop
-returns c = let e : c.before.loop.k ≡ c.before.before.args.count = omega arith in rw e at c.before.loop.invariant.3.sifted
+returns : tie.Need-returns invariant-loop-k decreases-loop-k
+returns c = let e : c.before.loop-k.k ≡ c.before.before.args.count = omega arith in rw e at c.before.loop-k.invariant.3.sifted
 
 pub sift_spec : {M : Type 1} → statement M
 sift_spec = tie.close (tie.spec
-    invariant_loop decreases_loop (λ c. (omega arith, omega arith, refl, sift_none _)) (λ c. search rules) (λ c. search rules) (λ c. search rules)
+    invariant-loop-k decreases-loop-k (λ c. (omega arith, omega arith, refl, sift_none _)) (λ c. search rules) (λ c. search rules) (λ c. search rules)
     (λ c. search rules) (λ c. search rules) (λ c. search rules) (λ c. search rules) (λ c. search rules) (λ c. search rules) (λ c. search rules)
     (λ c. search rules) (λ c. search rules) (λ c. search rules) (λ c. search rules) slice_write_part_2 (λ c. search rules) (λ c. search rules)
-    loop_again (λ c. search rules) loop_again_2 (λ c. c.before.loop.invariant.2) returns)
+    loop_again (λ c. search rules) loop_again_2 (λ c. c.before.loop-k.invariant.2) returns)

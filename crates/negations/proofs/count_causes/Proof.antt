@@ -8,31 +8,31 @@ use Rattle.negations.proofs.Loops.{Counted, counted_more, counted_same, counted_
 use Rattle.negations.proofs.count_causes.Statement.{statement}
 use Rattle.negations.proofs.count_causes.Tie as tie
 
-abbrev invariant_loop : tie.invariant_loop
-invariant_loop area n count base limit merged found₀ place₀ found place = (place ≤ merged + 1) × (found ≤ place) × Counted area n count base limit place found
+abbrev invariant-loop-place : tie.invariant-loop-place
+invariant-loop-place area n count base limit merged found₀ place₀ found place = (place ≤ merged + 1) × (found ≤ place) × Counted area n count base limit place found
 
-abbrev decreases_loop : tie.decreases_loop
-decreases_loop area n count base limit merged found₀ place₀ found place = merged + 1 - place
+abbrev decreases-loop-place : tie.decreases-loop-place
+decreases-loop-place area n count base limit merged found₀ place₀ found place = merged + 1 - place
 
-loop_again : tie.Need-loop-preserved invariant_loop decreases_loop
+loop_again : tie.Need-loop-place-preserved invariant-loop-place decreases-loop-place
 loop_again c = let s = c.before.before.before.before.before.before in
     let told = c.before.cause_at.ensures in
-    let more : c.before.before.before.loop.place ≤ merged_at s.args.area.now s.args.base = omega
-    (arith, c.before.before.before.before.merged_at.ensures, c.before.before.loop-test.true) in (
+    let more : c.before.before.before.loop-place.place ≤ merged_at s.args.area.now s.args.base = omega
+    (arith, c.before.before.before.before.merged_at-merged.ensures, c.before.before.loop-place-test.true) in (
       omega arith,
-      ⊎_elim (λ x. omega arith) (λ x. omega arith) c.if1.branch,
+      ⊎_elim (λ x. omega arith) (λ x. omega arith) c.if-cause_at-limit.branch,
       ⊎_elim
-          (λ x. rw x.1 (counted_more s.requires c.before.before.before.loop.place more told c.before.before.before.loop.found x.0.taken
-          c.before.before.before.loop.invariant.2))
-          (λ x. rw x.1 (counted_same s.requires c.before.before.before.loop.place more told c.before.before.before.loop.found x.0.left
-          c.before.before.before.loop.invariant.2))
-          c.if1.branch,
+          (λ x. rw x.1 (counted_more s.requires c.before.before.before.loop-place.place more told c.before.before.before.loop-place.found x.0.taken
+          c.before.before.before.loop-place.invariant.2))
+          (λ x. rw x.1 (counted_same s.requires c.before.before.before.loop-place.place more told c.before.before.before.loop-place.found x.0.left
+          c.before.before.before.loop-place.invariant.2))
+          c.if-cause_at-limit.branch,
     )
 
 pub count_causes_spec : {M : Type 1} → statement M
 count_causes_spec = tie.close (tie.spec
-    invariant_loop decreases_loop (λ c κs. search rules) (λ c. (omega arith, omega arith, omega arith))
-    (λ c κs. (c.before.before.before.before.requires, omega (arith, c.before.before.merged_at.ensures, c.loop-test.true))) (λ c. search rules)
+    invariant-loop-place decreases-loop-place (λ c κs. search rules) (λ c. (omega arith, omega arith, omega arith))
+    (λ c κs. (c.before.before.before.before.requires, omega (arith, c.before.before.merged_at-merged.ensures, c.loop-place-test.true))) (λ c. search rules)
     (λ c. search rules) (λ c. search rules) loop_again
-    (λ c. counted_ends c.before.before.before.before.requires c.before.loop.place c.before.loop.found
-    (omega (arith, c.before.before.merged_at.ensures, c.loop-test.false)) c.before.loop.invariant.2))
+    (λ c. counted_ends c.before.before.before.before.requires c.before.loop-place.place c.before.loop-place.found
+    (omega (arith, c.before.before.merged_at-merged.ensures, c.loop-place-test.false)) c.before.loop-place.invariant.2))

@@ -14,40 +14,40 @@ use Rattle.negations.proofs.Loops.{Writing, room_here, writing_starts, writing_m
 use Rattle.negations.proofs.write_causes.Statement.{statement}
 use Rattle.negations.proofs.write_causes.Tie as tie
 
-abbrev invariant_loop : tie.invariant_loop
-invariant_loop area n count base limit list₀ start merged at₀ place₀ list at place = (place ≤ merged + 1) × Writing area n count base limit start list₀ place at list
+abbrev invariant-loop-place : tie.invariant-loop-place
+invariant-loop-place area n count base limit list₀ start merged at₀ place₀ list at place = (place ≤ merged + 1) × Writing area n count base limit start list₀ place at list
 
-abbrev decreases_loop : tie.decreases_loop
-decreases_loop area n count base limit list₀ start merged at₀ place₀ list at place = merged + 1 - place
+abbrev decreases-loop-place : tie.decreases-loop-place
+decreases-loop-place area n count base limit list₀ start merged at₀ place₀ list at place = merged + 1 - place
 
-more : (c : tie.In-loop invariant_loop decreases_loop) → let s = c.before.before.before.before in
-    c.before.loop.place ≤ merged_at s.args.area.now s.args.base
-more c = omega (arith, c.before.before.merged_at.ensures, c.loop-test.true)
+more : (c : tie.In-loop-place invariant-loop-place decreases-loop-place) → let s = c.before.before.before.before in
+    c.before.loop-place.place ≤ merged_at s.args.area.now s.args.base
+more c = omega (arith, c.before.before.merged_at-merged.ensures, c.loop-place-test.true)
 
 -- there is room for one literal more
-fits_here : (c : tie.After-negated invariant_loop decreases_loop) → c.before.before.before.before.before.loop.at < length
-    c.before.before.before.before.before.loop.list
+fits_here : (c : tie.After-negated invariant-loop-place decreases-loop-place) → c.before.before.before.before.before.loop-place.at < length
+    c.before.before.before.before.before.loop-place.list
 fits_here c = let s = c.before.before.before.before.before.before.before.before in
-    room_here s.requires.0 c.before.before.before.before.before.loop.place (more c.before.before.before.before)
-    c.before.before.before.cause_at.ensures c.before.before.before.before.before.loop.invariant.1 s.requires.1 c.before.before.if1.true
+    room_here s.requires.0 c.before.before.before.before.before.loop-place.place (more c.before.before.before.before)
+    c.before.before.before.cause_at-row.ensures c.before.before.before.before.before.loop-place.invariant.1 s.requires.1 c.before.before.if-row-limit.true
 
-loop_again : tie.Need-loop-preserved invariant_loop decreases_loop
+loop_again : tie.Need-loop-place-preserved invariant-loop-place decreases-loop-place
 loop_again c = let p = c.before.before.before.before.before.before.requires in
-    let i = c.before.before.before.loop.place in
-    let told = c.before.cause_at.ensures in (
+    let i = c.before.before.before.loop-place.place in
+    let told = c.before.cause_at-row.ensures in (
       omega arith,
       ⊎_elim
-          (λ x. rw (x.4, x.3) (writing_more p.0 i (more c.before.before) told c.before.before.before.loop.invariant.1 p.1 x.0.taken
+          (λ x. rw (x.4, x.3) (writing_more p.0 i (more c.before.before) told c.before.before.before.loop-place.invariant.1 p.1 x.0.taken
           (to_z-of_z w64 x.2.result (search rules) ∙ x.2.ensures ∙ ap {A = ℕ} (λ y. neg_ℤ (literal_of y)) x.1.ensures)))
-          (λ x. rw (x.2, x.1) (writing_same p.0 i (more c.before.before) told c.before.before.before.loop.invariant.1 x.0.left))
-          c.if1.branch,
+          (λ x. rw (x.2, x.1) (writing_same p.0 i (more c.before.before) told c.before.before.before.loop-place.invariant.1 x.0.left))
+          c.if-row-limit.branch,
     )
 
 pub write_causes_spec : {M : Type 1} → statement M
 write_causes_spec = tie.close (tie.spec
-    invariant_loop decreases_loop (λ c κs. search rules) (λ c. (omega arith, writing_starts))
-    (λ c κs. (c.before.before.before.before.requires.0, omega (arith, c.before.before.merged_at.ensures, c.loop-test.true)))
+    invariant-loop-place decreases-loop-place (λ c κs. search rules) (λ c. (omega arith, writing_starts))
+    (λ c κs. (c.before.before.before.before.requires.0, omega (arith, c.before.before.merged_at-merged.ensures, c.loop-place-test.true)))
     (λ c κs. search rules) (λ c κs. search rules) (λ c. omega (arith, fits_here c)) fits_here (λ c. omega (arith, fits_here c)) (λ c. search rules)
-    (λ c. search rules) loop_again (λ c. c.before.loop.invariant.1.size)
-    (λ c. writing_ends c.before.before.before.before.requires.0 (omega (arith, c.before.before.merged_at.ensures, c.loop-test.false))
-    c.before.loop.invariant.1))
+    (λ c. search rules) loop_again (λ c. c.before.loop-place.invariant.1.size)
+    (λ c. writing_ends c.before.before.before.before.requires.0 (omega (arith, c.before.before.merged_at-merged.ensures, c.loop-place-test.false))
+    c.before.loop-place.invariant.1))

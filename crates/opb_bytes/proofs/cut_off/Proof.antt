@@ -5,4 +5,4 @@ use Rattle.opb_bytes.proofs.cut_off.Tie as tie
 
 pub cut_off_spec : {M : Type 1} → statement M
 cut_off_spec = tie.close (tie.spec
-    (λ c. simp (eq-eqb _ _ c.if1.true)) (λ c. simp (ne_eqb _ _ c.if1.false)))
+    (λ c. simp (eq-eqb _ _ c.if-fault-eq0.true)) (λ c. simp (ne_eqb _ _ c.if-fault-eq0.false)))

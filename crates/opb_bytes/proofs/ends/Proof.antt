@@ -45,41 +45,41 @@ others AfterBound s h = refl
 ended : (s : State) {p : Phase} {n : ℕ} → s.phase ≡ p → n ≡ ends p s → n ≡ ends s.phase s
 ended s e h = h ∙ ap (λ (p : Phase). ends p s) (sym e)
 
-returns : tie.Need-returns
+returns : tie.Need-returns-in-InV
 unfolding ends
-returns c = ended c.before.before.before.before.args.s c.before.before.enum_told.given.1 (c.cut_off.ensures ∙ ap cut_off c.before.v_fault.ensures)
+returns c = ended c.before.before.before.before.args.s c.before.before.enum_told-1.given.1 (c.cut_off.ensures ∙ ap cut_off c.before.v_fault.ensures)
 
-returns_2 : tie.Need-returns-2
+returns_2 : tie.Need-returns-in-InC
 unfolding ends
-returns_2 c = ended c.before.before.before.before.args.s c.before.before.enum-told2.given.1 (c.cut-off2.ensures ∙ ap cut_off c.before.c_fault.ensures)
+returns_2 c = ended c.before.before.before.before.args.s c.before.before.enum_told-in-InC-1.given.1 (c.cut_off-in-InC.ensures ∙ ap cut_off c.before.c_fault.ensures)
 
-returns_3 : tie.Need-returns-3
+returns_3 : tie.Need-returns-in-InWeight
 unfolding ends
-returns_3 c = ended c.before.before.before.before.args.s c.before.before.enum-told3.given.1 (c.cut-off3.ensures ∙ ap cut_off c.before.long_fault.ensures)
+returns_3 c = ended c.before.before.before.before.args.s c.before.before.enum_told-in-InWeight-1.given.1 (c.cut_off-in-InWeight.ensures ∙ ap cut_off c.before.long_fault.ensures)
 
-returns_4 : tie.Need-returns-4
+returns_4 : tie.Need-returns-in-InVariable
 unfolding ends
-returns_4 c = ended c.before.before.before.before.args.s c.before.before.enum-told4.given.1 (c.cut-off4.ensures ∙ ap cut_off c.before.variable_fault.ensures)
+returns_4 c = ended c.before.before.before.before.args.s c.before.before.enum_told-in-InVariable-1.given.1 (c.cut_off-in-InVariable.ensures ∙ ap cut_off c.before.variable_fault.ensures)
 
-returns_5 : tie.Need-returns-5
+returns_5 : tie.Need-returns-in-InBound
 unfolding ends
-returns_5 c = ended c.before.before.before.before.args.s c.before.before.enum-told5.given.1 (c.cut-off5.ensures ∙ ap cut_off c.before.long-fault2.ensures)
+returns_5 c = ended c.before.before.before.before.args.s c.before.before.enum_told-in-InBound-1.given.1 (c.cut_off-in-InBound.ensures ∙ ap cut_off c.before.long_fault-in-InBound.ensures)
 
-returns_6 : tie.Need-returns-6
+returns_6 : tie.Need-returns-in-LineStart
 unfolding ends
-returns_6 c = ended c.before.before.args.s c.enum-told6.given.1 refl
+returns_6 c = ended c.before.before.args.s c.enum_told-in-LineStart-1.given.1 refl
 
-returns_7 : tie.Need-returns-7
+returns_7 : tie.Need-returns-in-Between
 unfolding ends
-returns_7 c = ended c.before.before.args.s c.enum-told7.given.1 refl
+returns_7 c = ended c.before.before.args.s c.enum_told-in-Between-1.given.1 refl
 
-returns_8 : tie.Need-returns-8
+returns_8 : tie.Need-returns-in-Comment
 unfolding ends
-returns_8 c = ended c.before.before.args.s c.enum-told8.given.1 refl
+returns_8 c = ended c.before.before.args.s c.enum_told-in-Comment-1.given.1 refl
 
-returns_9 : tie.Need-returns-9
+returns_9 : tie.Need-returns-in_default
 unfolding rest
-returns_9 c = others c.before.args.s.phase c.before.args.s c.match.keys9
+returns_9 c = others c.before.args.s.phase c.before.args.s c.in-Between.keys9
 
 pub ends_spec : {M : Type 1} → statement M
 ends_spec = tie.close (tie.spec

@@ -5,4 +5,4 @@ use Rattle.opb_bytes.proofs.start.Tie as tie
 
 pub start_spec : {M : Type 1} → statement M
 start_spec = tie.close (tie.spec
-    (λ c κs. search rules) (λ c. rw c.sign.ensures))
+    (λ c κs. search rules) (λ c. rw c.sign-number.ensures))

@@ -5,13 +5,13 @@ use Rattle.opb_grammar.specs.Grammar.{v_fault}
 use Rattle.opb_grammar.proofs.v_fault.Statement.{statement}
 use Rattle.opb_grammar.proofs.v_fault.Tie as tie
 
-returns : tie.Need-returns
+returns : tie.Need-returns-then-n-eq0
 unfolding v_fault
-returns c = simp (eq-eqb _ _ c.if1.true)
+returns c = simp (eq-eqb _ _ c.if-n-eq0.true)
 
-returns_2 : tie.Need-returns-2
+returns_2 : tie.Need-returns
 unfolding v_fault
-returns_2 c = simp (c.long_fault.ensures, ne_eqb _ _ c.before.if1.false)
+returns_2 c = simp (c.long_fault.ensures, ne_eqb _ _ c.before.if-n-eq0.false)
 
 pub v_fault_spec : {M : Type 1} → statement M
 v_fault_spec = tie.close (tie.spec

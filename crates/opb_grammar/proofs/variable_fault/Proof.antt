@@ -4,17 +4,17 @@ use Rattle.opb_grammar.specs.Grammar.{variable_fault}
 use Rattle.opb_grammar.proofs.variable_fault.Statement.{statement}
 use Rattle.opb_grammar.proofs.variable_fault.Tie as tie
 
-returns : tie.Need-returns
+returns : tie.Need-returns-then-sizes-n
 unfolding variable_fault
-returns c = simp (lt-ltb _ _ c.if1.true)
+returns c = simp (lt-ltb _ _ c.if-sizes-n.true)
 
-returns_2 : tie.Need-returns-2
+returns_2 : tie.Need-returns-then-counts-lt-ENTRIES
 unfolding variable_fault
-returns_2 c = simp (lt-leb _ _ c.if2.true, le-ltb _ _ c.before.before.if1.false)
+returns_2 c = simp (lt-leb _ _ c.if-counts-lt-ENTRIES.true, le-ltb _ _ c.before.before.if-sizes-n.false)
 
-returns_3 : tie.Need-returns-3
+returns_3 : tie.Need-returns
 unfolding variable_fault
-returns_3 c = simp (le-leb _ _ c.if2.false, le-ltb _ _ c.before.before.if1.false)
+returns_3 c = simp (le-leb _ _ c.if-counts-lt-ENTRIES.false, le-ltb _ _ c.before.before.if-sizes-n.false)
 
 pub variable_fault_spec : {M : Type 1} → statement M
 variable_fault_spec = tie.close (tie.spec

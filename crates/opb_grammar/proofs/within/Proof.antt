@@ -10,4 +10,4 @@ use Rattle.opb_grammar.proofs.within.Tie as tie
 pub within_spec : {M : Type 1} → statement M
 within_spec = tie.close (tie.spec
     (λ c. sym (lt-leb (c.before.args.a + c.before.args.b) c.before.args.limit (omega arith)))
-    (λ c. within_is c.before.args.a c.before.args.b c.before.args.limit c.if1.false))
+    (λ c. within_is c.before.args.a c.before.args.b c.before.args.limit c.if-a-limit.false))

@@ -6,9 +6,9 @@ use Rattle.opb_grammar.proofs.Tests.{yes, no}
 use Rattle.opb_phases.proofs.before_x.Statement.{statement}
 use Rattle.opb_phases.proofs.before_x.Tie as tie
 
-returns_2 : tie.Need-returns-2
+returns_2 : tie.Need-returns-then-k-eq-EX
 unfolding transition
-returns_2 c = simp (c.numbered.ensures, c.before.sign.ensures, eq-eqb _ _ c.before.before.if2.true, ne_eqb _ _ c.before.before.before.if1.false)
+returns_2 c = simp (c.numbered.ensures, c.before.sign.ensures, eq-eqb _ _ c.before.before.if-k-eq-EX.true, ne_eqb _ _ c.before.before.before.if-k-eq-BLANK.false)
 
 pub before_x_spec : {M : Type 1} → statement M
 unfolding transition

@@ -10,9 +10,9 @@ use Rattle.opb_grammar.proofs.Tests.{yes, no, yes_told, no_told}
 use Rattle.opb_phases.proofs.in_v.Statement.{statement}
 use Rattle.opb_phases.proofs.in_v.Tie as tie
 
-returns_3 : tie.Need-returns-3
+returns_3 : tie.Need-returns
 unfolding transition
-returns_3 c = simp (c.middle.ensures, c.before.sizing.ensures, eq-eqb _ _ c.before.before.before.if2.false, sym c.before.before.before.before.v_fault.ensures, ne_eqb _ _ c.before.before.before.before.before.if1.false)
+returns_3 c = simp (c.middle.ensures, c.before.sizing.ensures, eq-eqb _ _ c.before.before.before.if-f-ne0.false, sym c.before.before.before.before.v_fault-f.ensures, ne_eqb _ _ c.before.before.before.before.before.if-k-eq-DIGIT.false)
 
 pub in_v_spec : {M : Type 1} → statement M
 unfolding transition

@@ -12,5 +12,5 @@ pub in_variable_spec : {M : Type 1} → statement M
 unfolding transition
 in_variable_spec = tie.close (tie.spec
     (λ c κs. search rules) (λ c. search (yes, no, yes_told, no_told)) (λ c κs. search rules) (λ c. search (yes, no, yes_told, no_told))
-    (λ c κs. (c.before.before.before.before.requires, entry_left c.before.before.before.before.args.s (sym c.before.before.variable_fault.ensures ∙ c.before.if2.false)))
+    (λ c κs. (c.before.before.before.before.requires, entry_left c.before.before.before.before.args.s (sym c.before.before.variable_fault-f.ensures ∙ c.before.if-f-ne0.false)))
     (λ c. search (yes, no, yes_told, no_told)) (λ c κs. search rules) (λ c. search (yes, no, yes_told, no_told)))

@@ -5,21 +5,21 @@ use Rattle.opb_grammar.specs.Grammar.{begin}
 use Rattle.opb_pieces.proofs.begin.Statement.{statement}
 use Rattle.opb_pieces.proofs.begin.Tie as tie
 
-returns : tie.Need-returns
+returns : tie.Need-returns-then-k-eq-DIGIT
 unfolding begin
-returns c = simp (c.numbered.ensures, c.before.more.ensures, c.before.before.sign.ensures, eq-eqb _ _ c.before.before.before.if1.true)
+returns c = simp (c.numbered.ensures, c.before.more.ensures, c.before.before.sign.ensures, eq-eqb _ _ c.before.before.before.if-k-eq-DIGIT.true)
 
-returns_2 : tie.Need-returns-2
+returns_2 : tie.Need-returns-then-k-eq-PLUS
 unfolding begin
-returns_2 c = simp (c.numbered2.ensures, c.before.sign2.ensures, eq-eqb _ _ c.before.before.if2.true, ne_eqb _ _ c.before.before.before.if1.false)
+returns_2 c = simp (c.numbered-then-k-eq-PLUS.ensures, c.before.sign-then-k-eq-PLUS.ensures, eq-eqb _ _ c.before.before.if-k-eq-PLUS.true, ne_eqb _ _ c.before.before.before.if-k-eq-DIGIT.false)
 
-returns_3 : tie.Need-returns-3
+returns_3 : tie.Need-returns-then-k-eq-MINUS
 unfolding begin
-returns_3 c = simp (c.numbered3.ensures, c.before.sign3.ensures, eq-eqb _ _ c.before.before.if3.true, ne_eqb _ _ c.before.before.before.if2.false, ne_eqb _ _ c.before.before.before.before.if1.false)
+returns_3 c = simp (c.numbered-then-k-eq-MINUS.ensures, c.before.sign-then-k-eq-MINUS.ensures, eq-eqb _ _ c.before.before.if-k-eq-MINUS.true, ne_eqb _ _ c.before.before.before.if-k-eq-PLUS.false, ne_eqb _ _ c.before.before.before.before.if-k-eq-DIGIT.false)
 
-returns_4 : tie.Need-returns-4
+returns_4 : tie.Need-returns
 unfolding begin
-returns_4 c = simp (c.wrong.ensures, ne_eqb _ _ c.before.if3.false, ne_eqb _ _ c.before.before.if2.false, ne_eqb _ _ c.before.before.before.if1.false)
+returns_4 c = simp (c.wrong.ensures, ne_eqb _ _ c.before.if-k-eq-MINUS.false, ne_eqb _ _ c.before.before.if-k-eq-PLUS.false, ne_eqb _ _ c.before.before.before.if-k-eq-DIGIT.false)
 
 pub begin_spec : {M : Type 1} → statement M
 begin_spec = tie.close (tie.spec

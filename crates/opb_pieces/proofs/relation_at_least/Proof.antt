@@ -7,11 +7,11 @@ use Rattle.opb_grammar.specs.Grammar.{relation_at_least}
 use Rattle.opb_pieces.proofs.relation_at_least.Statement.{statement}
 use Rattle.opb_pieces.proofs.relation_at_least.Tie as tie
 
-returns : tie.Need-returns
+returns : tie.Need-returns-then-c-ge-SENTENCES
 unfolding relation_at_least
 returns c = simp (lt-leb (c.before.before.before.args.s.counts.sentences + 1) 256 (omega arith))
 
-returns_2 : tie.Need-returns-2
+returns_2 : tie.Need-returns
 unfolding relation_at_least
 returns_2 c = simp (c.counting.ensures, le-leb (c.before.before.before.before.before.args.s.counts.sentences + 1) 256 (omega arith))
 

@@ -8,13 +8,13 @@ use Rattle.opb_rows.proofs.copy.Tie as tie
 
 pub copy_spec : {M : Type 1} → statement M
 copy_spec = tie.close (tie.spec
-    (λ c. not_copied c.before.before.before.args.s c.before.before.before.args.column.now (not-true _ c.if1.true))
+    (λ c. not_copied c.before.before.before.args.s c.before.before.before.args.column.now (not-true _ c.if-not-s.true))
     (λ c. let c3 = c.before.before.before in
-    omega (arith, two_copies c3.args.s c3.args.column.now (not-false _ c.if1.false) c3.requires.0))
+    omega (arith, two_copies c3.args.s c3.args.column.now (not-false _ c.if-not-s.false) c3.requires.0))
     (λ c. let c3 = c.before.before.before in
-    omega (arith, two_copies c3.args.s c3.args.column.now (not-false _ c.if1.false) c3.requires.0))
+    omega (arith, two_copies c3.args.s c3.args.column.now (not-false _ c.if-not-s.false) c3.requires.0))
     (λ c κs. let c4 = c.before.before.before.before in
-    omega (arith, two_copies c4.args.s c4.args.column.now (not-false _ c.before.if1.false) c4.requires.0))
+    omega (arith, two_copies c4.args.s c4.args.column.now (not-false _ c.before.if-not-s.false) c4.requires.0))
     (λ c. search rules)
     (λ c. let c3 = c.before.before.before in let c6 = c3.before.before.before in
     is_copied c6.args.s c6.args.column.now (not-false _ c3.if1.false)

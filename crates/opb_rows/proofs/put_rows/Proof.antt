@@ -12,4 +12,4 @@ put_rows_spec = tie.close (tie.spec
     (λ c. let c4 = c.before.before.before.before in let c8 = c4.before.before.before.before in let c11 = c8.before.before.before in
     let c15 = c11.before.before.before.before in let c19 = c15.before.before.before.before in let c23 = c19.before.before.before.before in
     same_columns c23.put.ensures c19.put2.ensures c15.put3.ensures c11.put_bound.ensures c8.put4.ensures c4.copy.ensures
-    c.before.copy2.ensures))
+    c.before.copy-2.ensures))

@@ -11,6 +11,6 @@ pub signed_value_spec : {M : Type 1} → statement M
 signed_value_spec = tie.close (tie.spec
     (λ c. search rules) (λ c. opposite_safe c.before.before.args.n.size c.before.before.requires)
     (λ c. opposite c.before.before.args.n.size c.before.before.requires ∙ ap
-    (λ (m : Bool). cond m (neg_ℤ (pos c.before.before.args.n.size)) (pos c.before.before.args.n.size)) (sym c.if1.true))
+    (λ (m : Bool). cond m (neg_ℤ (pos c.before.before.args.n.size)) (pos c.before.before.args.n.size)) (sym c.if-n.true))
     (λ c. natural c.before.before.args.n.size c.before.before.requires ∙ ap
-    (λ (m : Bool). cond m (neg_ℤ (pos c.before.before.args.n.size)) (pos c.before.before.args.n.size)) (sym c.if1.false)))
+    (λ (m : Bool). cond m (neg_ℤ (pos c.before.before.args.n.size)) (pos c.before.before.args.n.size)) (sym c.if-n.false)))

@@ -32,4 +32,4 @@ read_text_spec = tie.close (tie.spec
     let c13 = c7.before.before.before.before.before.before in
     refused_reply c13.args.text.now (seven_columns c13.args.heads.now c13.args.kinds.now c13.args.sides.now c13.args.bounds.now
     c13.args.counts.now c13.args.weights.now c13.args.literals.now) c7.least.ensures c6.least2.ensures
-    c5.least3.ensures c4.least4.ensures c3.least5.ensures c.before.before.decide.ensures c.if1.false))
+    c5.least3.ensures c4.least4.ensures c3.least5.ensures c.before.before.decide-r.ensures c.if-r-eq0.false))

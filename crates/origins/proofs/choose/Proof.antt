@@ -13,12 +13,12 @@ same_size c = let s = c.before.before.before.before.before.before.before in
 returns : tie.Need-returns
 returns c = let s = c.before.before.before.before.before.before.before.before.before.before.before in
     choice _ _ s.requires.0 _ s.requires.1 _ (rw (
-      c.before.before.before.before.before.before.before.before.atoms_of.ensures,
-      c.before.before.before.before.before.before.before.sentences_of.ensures,
+      c.before.before.before.before.before.before.before.before.atoms_of-n.ensures,
+      c.before.before.before.before.before.before.before.sentences_of-sentences.ensures,
     ) at c.before.before.before.before.mark.ensures) _
     (rw (
-      c.before.before.before.before.before.before.before.before.atoms_of.ensures,
-      c.before.before.before.before.before.before.length_of.ensures,
+      c.before.before.before.before.before.before.before.before.atoms_of-n.ensures,
+      c.before.before.before.before.before.before.length_of-rows.ensures,
     ) at c.count_chosen.ensures)
 
 pub choose_spec : {M : Type 1} → statement M
@@ -26,9 +26,9 @@ choose_spec = tie.close (tie.spec
     (λ c κs. search rules) (λ c κs. search rules) (λ c κs. search rules)
     (λ c. inside _ _ c.before.before.before.before.before.requires.0 _ c.before.before.before.before.before.requires.1)
     (λ c κs. let s = c.before.before.before.before.before.before in
-    rw (c.before.before.before.atoms_of.ensures, c.before.before.sentences_of.ensures)
+    rw (c.before.before.before.atoms_of-n.ensures, c.before.before.sentences_of-sentences.ensures)
     (markable _ _ s.requires.0 _ s.requires.1 _ (length-set s.args.marks.now s.args.position _)))
     (λ c κs. let s = c.before.before.before.before.before.before.before.before.before.before in
-    rw (c.before.before.before.before.before.before.before.atoms_of.ensures, c.before.before.before.before.before.length_of.ensures)
+    rw (c.before.before.before.before.before.before.before.atoms_of-n.ensures, c.before.before.before.before.before.length_of-rows.ensures)
     (choosable _ _ s.requires.0 _ s.requires.1 _ (same_size c.before.before.before)))
     (λ c. same_size c.before.before.before.before) returns)

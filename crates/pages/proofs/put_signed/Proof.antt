@@ -20,5 +20,5 @@ put_signed_spec = tie.close (tie.spec
     (λ c κs. search rules) (λ c κs. search rules) (λ c. search rules)
     (λ c. let i1 = c.before.before.before.before.before in let nx = i1.before in let s = nx.before.before in
     let back = to_z-of_z w64 s.args.z s.ranges.z in
-    natural_written s.args.z (sym (ap is_negative back) ∙ sym nx.negative.ensures ∙ i1.if1.false) (c.before.before.before.size2.ensures
-    ∙ ap nat_abs back) c.before.before.put-number2.ensures))
+    natural_written s.args.z (sym (ap is_negative back) ∙ sym nx.negative.ensures ∙ i1.if1.false) (c.before.before.before.size-2.ensures
+    ∙ ap nat_abs back) c.before.before.put_number-2.ensures))

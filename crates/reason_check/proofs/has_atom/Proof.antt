@@ -10,7 +10,7 @@ pub has_atom_spec : {M : Type 1} → statement M
 has_atom_spec = tie.close (tie.spec
     (λ c κs. search rules)
     (λ c. let s = c.before.before.before in
-    rw c.head_at.ensures (head_told s.args.area.now s.args.n s.args.sentences s.args.base s.args.place s.args.atom c.before.if1.true (told_equal _ _)))
+    rw c.head_at.ensures (head_told s.args.area.now s.args.n s.args.sentences s.args.base s.args.place s.args.atom c.before.if-place-eq0.true (told_equal _ _)))
     (λ c κs. search rules)
     (λ c. let s = c.before.before.before.before in told_no (past_told s.args.area.now s.args.n s.args.sentences s.args.base
     s.requires.0.room s.args.place s.args.atom s.requires.1 (omega arith)))

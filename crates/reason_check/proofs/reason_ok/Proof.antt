@@ -9,12 +9,12 @@ use Rattle.reason_check.proofs.reason_ok.Tie as tie
 pub reason_ok_spec : {M : Type 1} → statement M
 reason_ok_spec = tie.close (tie.spec
     (λ c κs. search rules) (λ c κs. search rules) (λ c κs. search rules)
-    (λ c. rw c.before.place_at.ensures (given_told _ _ _ _ (omega arith) (told_equal _ 0))) (λ c. told_no (λ h. omega (arith, h.few)))
+    (λ c. rw c.before.place_at-place.ensures (given_told _ _ _ _ (omega arith) (told_equal _ 0))) (λ c. told_no (λ h. omega (arith, h.few)))
     (λ c. search rules) (λ c. search rules) (λ c. search rules) (λ c. search rules)
     (λ c κs. (
-      reason_inside _ _ _ _ _ _ c.before.before.before.before.before.before.requires.0 c.before.if1.false
-          c.if2.false,
+      reason_inside _ _ _ _ _ _ c.before.before.before.before.before.before.requires.0 c.before.if-reason-eq0.false
+          c.if-reason-sentences.false,
       omega (arith, c.before.before.before.before.before.before.requires.0.literals _ c.before.before.before.before.before.before.requires.1),
     ))
-    (λ c. derived_told _ _ _ _ _ _ _ c.before.before.before.before.row_reason.ensures c.before.before.before.place_at.ensures
-    c.before.before.before.before.before.literal_at.ensures (omega arith) (omega arith) c.has_atom.ensures))
+    (λ c. derived_told _ _ _ _ _ _ _ c.before.before.before.before.row_reason-reason.ensures c.before.before.before.place_at-place.ensures
+    c.before.before.before.before.before.literal_at-atom.ensures (omega arith) (omega arith) c.has_atom.ensures))

@@ -8,16 +8,16 @@ use Rattle.area.specs.Whole.{Reasoned}
 use Rattle.reason_check.proofs.reasons_ok.Statement.{statement}
 use Rattle.reason_check.proofs.reasons_ok.Tie as tie
 
-abbrev invariant_loop : tie.invariant_loop
-invariant_loop area lim n count len i₀ i = (i ≤ len) × ((k : ℕ) → k < i → Reasoned area n count k)
+abbrev invariant-loop-i : tie.invariant-loop-i
+invariant-loop-i area lim n count len i₀ i = (i ≤ len) × ((k : ℕ) → k < i → Reasoned area n count k)
 
-abbrev decreases_loop : tie.decreases_loop
-decreases_loop area lim n count len i₀ i = len - i
+abbrev decreases-loop-i : tie.decreases-loop-i
+decreases-loop-i area lim n count len i₀ i = len - i
 
 pub reasons_ok_spec : {M : Type 1} → statement M
 reasons_ok_spec = tie.close (tie.spec
-    invariant_loop decreases_loop (λ c. (omega arith, below_none _)) (λ c κs. (c.before.before.before.requires, c.loop-test.true))
-    (λ c. told_no (λ h. denied c.before.reason_ok.ensures c.if1.true (h c.before.before.before.loop.i (omega arith))))
+    invariant-loop-i decreases-loop-i (λ c. (omega arith, below_none _)) (λ c κs. (c.before.before.before.requires, c.loop-i-test.true))
+    (λ c. told_no (λ h. denied c.before.reason_ok.ensures c.if-not-reason_ok.true (h c.before.before.before.loop-i.i (omega arith))))
     (λ c. search rules) (λ c. search rules)
-    (λ c. (omega arith, below_more _ _ c.before.before.before.loop.invariant.1 (granted c.before.reason_ok.ensures c.if1.false)))
-    (λ c. told_yes (λ k l. c.before.loop.invariant.1 k (omega arith))))
+    (λ c. (omega arith, below_more _ _ c.before.before.before.loop-i.invariant.1 (granted c.before.reason_ok.ensures c.if-not-reason_ok.false)))
+    (λ c. told_yes (λ k l. c.before.loop-i.invariant.1 k (omega arith))))

@@ -10,22 +10,22 @@ use Rattle.refresh.proofs.Touching.{atom_in, entry_untouched, all_untouched}
 use Rattle.refresh.proofs.touches.Statement.{statement}
 use Rattle.refresh.proofs.touches.Tie as tie
 
-abbrev invariant_loop : tie.invariant_loop
-invariant_loop area n count base touched head start merged i₀ i = (i ≤ merged) × ((j : ℕ) → j < i → word touched (literal_in area start j / 2) ≡ 0)
+abbrev invariant-loop-i : tie.invariant-loop-i
+invariant-loop-i area n count base touched head start merged i₀ i = (i ≤ merged) × ((j : ℕ) → j < i → word touched (literal_in area start j / 2) ≡ 0)
 
-abbrev decreases_loop : tie.decreases_loop
-decreases_loop area n count base touched head start merged i₀ i = merged - i
+abbrev decreases-loop-i : tie.decreases-loop-i
+decreases-loop-i area n count base touched head start merged i₀ i = merged - i
 
 pub touches_spec : {M : Type 1} → statement M
 touches_spec = tie.close (tie.spec
-    invariant_loop decreases_loop (λ c κs. search rules) (λ c. search rules) (λ c. told_no (λ u. c.if1.true (rw c.before.before.head_at.ensures u.0)))
+    invariant-loop-i decreases-loop-i (λ c κs. search rules) (λ c. search rules) (λ c. told_no (λ u. c.if-touched-head-ne0.true (rw c.before.before.head_at-head.ensures u.0)))
     (λ c κs. search rules) (λ c κs. search rules) (λ c. search rules) (λ c κs. search rules)
     (λ c. let s = c.before.before.before.before in
     let p = s.before.before.before.before.before.before.before.requires in
-    omega (arith, atom_in p s.before.entry_at.ensures s.merged_at.ensures c.before.before.loop-test.true c.before.literal_in.ensures))
-    (λ c. told_no (λ u. c.if2.true (search entry_untouched))) (λ c. search rules) (λ c. search rules)
-    (λ c. (omega arith, below_more _ _ c.before.before.before.before.loop.invariant.1 (rw c.before.before.literal_in.ensures at c.if2.false)))
+    omega (arith, atom_in p s.before.entry_at-start.ensures s.merged_at-merged.ensures c.before.before.loop-i-test.true c.before.literal_in.ensures))
+    (λ c. told_no (λ u. c.if-touched-a-ne0.true (search entry_untouched))) (λ c. search rules) (λ c. search rules)
+    (λ c. (omega arith, below_more _ _ c.before.before.before.before.loop-i.invariant.1 (rw c.before.before.literal_in.ensures at c.if-touched-a-ne0.false)))
     (λ c. let s = c.before.before in
     let p = s.before.before.before.before.before.before.before.requires in
-    told_yes (all_untouched p s.before.entry_at.ensures s.merged_at.ensures s.before.before.before.before.head_at.ensures s.before.before.if1.false
-    (λ j l. c.before.loop.invariant.1 j (omega arith)))))
+    told_yes (all_untouched p s.before.entry_at-start.ensures s.merged_at-merged.ensures s.before.before.before.before.head_at-head.ensures s.before.before.if-touched-head-ne0.false
+    (λ j l. c.before.loop-i.invariant.1 j (omega arith)))))

@@ -15,15 +15,15 @@ pub trail_whole_spec : {M : Type 1} → statement M
 trail_whole_spec = tie.close (tie.spec
     (λ c κs. search rules) (λ c κs. search rules) (λ c. search rules)
     (λ c. let s = c.before.before.before.before in
-    rw c.before.length_of.ensures (listing_refused _ _ _ _ 18 _
-    (trail_short s.args.lim s.args.area.now (length s.args.list.now) (omega (arith, c.before.length_of.ensures)))))
+    rw c.before.length_of-rows.ensures (listing_refused _ _ _ _ 18 _
+    (trail_short s.args.lim s.args.area.now (length s.args.list.now) (omega (arith, c.before.length_of-rows.ensures)))))
     (λ c κs. let s = c.before.before.before.before.before in
     let w = s.args.area.now in
     let few = few_places w (atoms_of w) (length_of w) s.requires.trail_right.atoms in
-    rw (c.before.before.before.atoms_of.ensures, c.before.before.length_of.ensures) (few, omega arith, omega (arith, c.before.before.length_of.ensures)))
+    rw (c.before.before.before.atoms_of-n.ensures, c.before.before.length_of-rows.ensures) (few, omega arith, omega (arith, c.before.before.length_of-rows.ensures)))
     (λ c. search rules)
     (λ c. let s = c.before.before.before.before.before.before.before in
     let w = s.args.area.now in
-    let e = c.before.before.before.before.length_of.ensures in
+    let e = c.before.before.before.before.length_of-rows.ensures in
     rw e (listing_done _ _ _ _ _ _ _ (trail_listed s.args.lim w (length s.args.list.now) (omega (arith, e)))
-    (sym (rows_size w (atoms_of w) (length_of w))) (rw (c.before.before.before.before.before.atoms_of.ensures, e) at c.before.write_rows.ensures))))
+    (sym (rows_size w (atoms_of w) (length_of w))) (rw (c.before.before.before.before.before.atoms_of-n.ensures, e) at c.before.write_rows.ensures))))

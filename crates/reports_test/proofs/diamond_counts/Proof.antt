@@ -6,13 +6,13 @@ use lib.ListN.{length}
 use Rattle.reports_test.proofs.diamond_counts.Statement.{statement}
 use Rattle.reports_test.proofs.diamond_counts.Tie as tie
 
-abbrev invariant_loop : tie.invariant_loop
-invariant_loop counts₀ d₀ counts d = (d ≤ 85) × (length counts ≡ 255)
+abbrev invariant-loop-d : tie.invariant-loop-d
+invariant-loop-d counts₀ d₀ counts d = (d ≤ 85) × (length counts ≡ 255)
 
-abbrev decreases_loop : tie.decreases_loop
-decreases_loop counts₀ d₀ counts d = 85 - d
+abbrev decreases-loop-d : tie.decreases-loop-d
+decreases-loop-d counts₀ d₀ counts d = 85 - d
 
 pub diamond_counts_spec : {M : Type 1} → statement M
 diamond_counts_spec = tie.close (tie.spec
-    invariant_loop decreases_loop (λ c. search rules) (λ c. search rules) (λ c. search rules) (λ c. search rules) (λ c. search rules) (λ c. search rules)
+    invariant-loop-d decreases-loop-d (λ c. search rules) (λ c. search rules) (λ c. search rules) (λ c. search rules) (λ c. search rules) (λ c. search rules)
     (λ c. search rules) (λ c. search rules) (λ c. search rules))

@@ -6,15 +6,15 @@ use lib.ListN.{length}
 use Rattle.reports_test.proofs.diamond_literals.Statement.{statement}
 use Rattle.reports_test.proofs.diamond_literals.Tie as tie
 
-abbrev invariant_loop : tie.invariant_loop
-invariant_loop literals₀ d₀ literals d = (d ≤ 85) × (length literals ≡ 340)
+abbrev invariant-loop-d : tie.invariant-loop-d
+invariant-loop-d literals₀ d₀ literals d = (d ≤ 85) × (length literals ≡ 340)
 
-abbrev decreases_loop : tie.decreases_loop
-decreases_loop literals₀ d₀ literals d = 85 - d
+abbrev decreases-loop-d : tie.decreases-loop-d
+decreases-loop-d literals₀ d₀ literals d = 85 - d
 
 pub diamond_literals_spec : {M : Type 1} → statement M
 diamond_literals_spec = tie.close (tie.spec
-    invariant_loop decreases_loop (λ c. search rules) (λ c. search rules) (λ c. search rules) (λ c. search rules) (λ c. search rules) (λ c. search rules)
+    invariant-loop-d decreases-loop-d (λ c. search rules) (λ c. search rules) (λ c. search rules) (λ c. search rules) (λ c. search rules) (λ c. search rules)
     (λ c. search rules) (λ c. search rules) (λ c. search rules) (λ c. search rules) (λ c. search rules) (λ c. search rules) (λ c. search rules)
     (λ c. search rules) (λ c. search rules) (λ c. search rules) (λ c. search rules) (λ c. search rules) (λ c. search rules) (λ c. search rules)
     (λ c. search rules) (λ c. search rules) (λ c. search rules) (λ c. search rules) (λ c. search rules) (λ c. search rules) (λ c. search rules)

@@ -11,13 +11,13 @@ use Rattle.search.proofs.ended.Tie as tie
 pub ended_spec : {M : Type 1} → statement M
 ended_spec = tie.close (tie.spec
     (λ c. search rules) (λ c. search rules)
-    (λ c. let e : (propagated_returned c.before.before.before.args.answer).value ≡ c.before.answer2.given.0.0 = ap {A = Propagated}
-    (λ a. (propagated_returned a).value) c.before.answer2.given.1 in
+    (λ c. let e : (propagated_returned c.before.before.before.args.answer).value ≡ c.before.answer-in-Still-1.given.0.0 = ap {A = Propagated}
+    (λ a. (propagated_returned a).value) c.before.answer-in-Still-1.given.1 in
     omega (arith, e, c.before.before.before.requires))
     (λ c. search rules)
-    (λ c. let e : (propagated_returned c.before.before.before.args.answer).value ≡ c.before.answer3.given.0.1.0 = ap {A = Propagated}
-    (λ a. (propagated_returned a).value) c.before.answer3.given.1 in
+    (λ c. let e : (propagated_returned c.before.before.before.args.answer).value ≡ c.before.answer-in-Conflict-1.given.0.1.0 = ap {A = Propagated}
+    (λ a. (propagated_returned a).value) c.before.answer-in-Conflict-1.given.1 in
     omega (arith, e, c.before.before.before.requires))
-    (λ c. let s = c.before.before.before in ap {A = Propagated} (λ a. ended_by a s.args.total s.args.gone) (sym c.before.answer.given.1))
-    (λ c. let s = c.before.before.before in ap {A = Propagated} (λ a. ended_by a s.args.total s.args.gone) (sym c.before.answer2.given.1))
-    (λ c. let s = c.before.before.before in ap {A = Propagated} (λ a. ended_by a s.args.total s.args.gone) (sym c.before.answer3.given.1)))
+    (λ c. let s = c.before.before.before in ap {A = Propagated} (λ a. ended_by a s.args.total s.args.gone) (sym c.before.answer-1.given.1))
+    (λ c. let s = c.before.before.before in ap {A = Propagated} (λ a. ended_by a s.args.total s.args.gone) (sym c.before.answer-in-Still-1.given.1))
+    (λ c. let s = c.before.before.before in ap {A = Propagated} (λ a. ended_by a s.args.total s.args.gone) (sym c.before.answer-in-Conflict-1.given.1)))

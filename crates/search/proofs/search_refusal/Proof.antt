@@ -9,13 +9,13 @@ use Rattle.search.proofs.search_refusal.Statement.{statement}
 use Rattle.search.proofs.search_refusal.Tie as tie
 
 -- whether every literal is of one of the area's atoms
-told : (c : tie.After-all-known) → let s = c.before.before.before in
+told : (c : tie.After-all_known) → let s = c.before.before.before in
     Tells c.all_known.result (AllKnown (atoms_of s.args.area.now) s.args.literals.now)
-told c = rw c.before.atoms_of.ensures at c.all_known.ensures
+told c = rw c.before.atoms_of-n.ensures at c.all_known.ensures
 
 pub search_refusal_spec : {M : Type 1} → statement M
 search_refusal_spec =
     tie.close
     (tie.spec (λ c κs. search rules) (λ c κs. search rules)
-    (λ c lim. let s = c.before.before.before.before in strange_code lim s.args.area.now s.args.literals.now (denied (told c.before) c.if1.true))
-    (λ c lim. let s = c.before.before.before.before in known_code lim s.args.area.now s.args.literals.now (granted (told c.before) c.if1.false)))
+    (λ c lim. let s = c.before.before.before.before in strange_code lim s.args.area.now s.args.literals.now (denied (told c.before) c.if-not-all_known.true))
+    (λ c lim. let s = c.before.before.before.before in known_code lim s.args.area.now s.args.literals.now (granted (told c.before) c.if-not-all_known.false)))

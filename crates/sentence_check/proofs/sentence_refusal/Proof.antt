@@ -25,39 +25,39 @@ wider n ls h e = none_of (length ls) (λ i. outside 4096 (atom (nth ls i))) (λ 
     an_atom 4096 (atom (nth ls i)) (λ q. omega (arith, k.0)) (omega (arith, k.1)))
 
 -- the bound comes back from its bits
-range_told : (c : tie.After-out-of-range) → let a = c.before.before.before.before.before.args in c.out_of_range.result
+range_told : (c : tie.After-out_of_range) → let a = c.before.before.before.before.before.args in c.out_of_range.result
     ≡ (unfit_weights a.kind a.weights.now || not (bound_fits a.bound))
 range_told c = let a = c.before.before.before.before.before.args in
     c.out_of_range.ensures ∙ of_element (λ z. unfit_weights a.kind a.weights.now || not (bound_fits z)) a.bound
     c.before.before.before.before.before.ranges.bound
 
 -- of a product the weights tell
-product_told : (c : tie.After-too-great) → let a = c.before.before.before.before.before.before.before.before.before.before.before.before.args in
+product_told : (c : tie.After-too_great) → let a = c.before.before.before.before.before.before.before.before.before.before.before.before.args in
     c.too_great.result ≡ (is_product a.kind && product_above a.weights.now)
 product_told c = let a = c.before.before.before.before.before.before.before.before.before.before.before.before.args in
-    rw (eq-eqb a.kind 1 c.before.if6.true) c.too_great.ensures
+    rw (eq-eqb a.kind 1 c.before.if-kind-eq1.true) c.too_great.ensures
 
 mixed_requires : tie.Need-mixed-requires
 mixed_requires c κs = let s = c.before.before.before.before.before.before.before.before in
     wider s.args.n s.args.literals.now s.requires (right_false (outside s.args.n s.args.head)
     (no_literal s.args.n s.args.literals.now) (sym c.before.before.before.before.before.strange.ensures ∙
-    c.before.before.before.before.if2.false))
+    c.before.before.before.before.if-strange.false))
 
-too_great_requires : tie.Need-too-great-requires
+too_great_requires : tie.Need-too_great-requires
 too_great_requires c κs = let a = c.before.before.before.before.before.before.before.before.before.before.before.args in
-    subst (λ (k : ℕ). unfit_weights k a.weights.now ≡ false) c.if6.true
+    subst (λ (k : ℕ). unfit_weights k a.weights.now ≡ false) c.if-kind-eq1.true
     (left_false (unfit_weights a.kind a.weights.now) (not (bound_fits a.bound))
-    (sym (range_told c.before.before.before.before.before.before) ∙ c.before.before.before.before.before.if3.false))
+    (sym (range_told c.before.before.before.before.before.before) ∙ c.before.before.before.before.before.if-out_of_range.false))
 
-returns_6 : tie.Need-returns-6
-returns_6 c = search (is_8, range_told c.before.before.before.before.before.before.before.before, sym (product_told c.before) ∙ c.if7.true)
+returns_6 : tie.Need-returns-then-too_great
+returns_6 c = search (is_8, range_told c.before.before.before.before.before.before.before.before, sym (product_told c.before) ∙ c.if-too_great.true)
 
-returns_7 : tie.Need-returns-7
-returns_7 c = search (is_0, range_told c.before.before.before.before.before.before.before.before, sym (product_told c.before) ∙ c.if7.false)
+returns_7 : tie.Need-returns-else-too_great
+returns_7 c = search (is_0, range_told c.before.before.before.before.before.before.before.before, sym (product_told c.before) ∙ c.if-too_great.false)
 
-no_product : (c : tie.Else6) → let a = c.before.before.before.before.before.before.before.before.before.before.before.args in
+no_product : (c : tie.Else-kind-eq1) → let a = c.before.before.before.before.before.before.before.before.before.before.before.args in
     (is_product a.kind && product_above a.weights.now) ≡ false
-no_product c = rw (ne_eqb c.before.before.before.before.before.before.before.before.before.before.before.args.kind 1 c.if6.false)
+no_product c = rw (ne_eqb c.before.before.before.before.before.before.before.before.before.before.before.args.kind 1 c.if-kind-eq1.false)
 
 pub sentence_refusal_spec : {M : Type 1} → statement M
 sentence_refusal_spec = tie.close (tie.spec

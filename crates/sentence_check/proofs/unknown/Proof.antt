@@ -5,5 +5,5 @@ use Rattle.sentence_check.proofs.unknown.Tie as tie
 
 pub unknown_spec : {M : Type 1} → statement M
 unknown_spec = tie.close (tie.spec
-    (λ c. rw (lt-ltb _ _ c.if1.true)) (λ c. rw (le-ltb _ _ c.before.if1.false, lt-ltb _ _ c.if2.true))
-    (λ c. rw (le-ltb _ _ c.before.if1.false, le-ltb _ _ c.if2.false)))
+    (λ c. rw (lt-ltb _ _ c.if-kind-gt4.true)) (λ c. rw (le-ltb _ _ c.before.if-kind-gt4.false, lt-ltb _ _ c.if-side-gt1.true))
+    (λ c. rw (le-ltb _ _ c.before.if-kind-gt4.false, le-ltb _ _ c.if-side-gt1.false)))

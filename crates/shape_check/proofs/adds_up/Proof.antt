@@ -11,33 +11,33 @@ use Rattle.columns.proofs.Clauses.{left_zero}
 use Rattle.shape_check.proofs.adds_up.Statement.{statement}
 use Rattle.shape_check.proofs.adds_up.Tie as tie
 
-abbrev invariant_loop : tie.invariant_loop
-invariant_loop counts total left₀ i₀ left i = (i ≤ length counts) × (left + sum_first counts i ≡ total)
+abbrev invariant-loop-i : tie.invariant-loop-i
+invariant-loop-i counts total left₀ i₀ left i = (i ≤ length counts) × (left + sum_first counts i ≡ total)
 
-abbrev decreases_loop : tie.decreases_loop
-decreases_loop counts total left₀ i₀ left i = length counts - i
+abbrev decreases-loop-i : tie.decreases-loop-i
+decreases-loop-i counts total left₀ i₀ left i = length counts - i
 
-returns : tie.Need-returns invariant_loop decreases_loop
+returns : tie.Need-returns-then-count-left invariant-loop-i decreases-loop-i
 returns c = let cs = c.before.before.before.before.args.counts.now in
     sym (ne_eqb (sum_first cs (length cs)) c.before.before.before.before.args.total
     (λ e. omega (
       arith,
       e,
-      c.before.before.before.loop.invariant.1,
-      sum_step cs c.before.before.before.loop.i,
+      c.before.before.before.loop-i.invariant.1,
+      sum_step cs c.before.before.before.loop-i.i,
       sum_upto cs
-          (c.before.before.before.loop.i + 1) (length cs) (omega arith),
+          (c.before.before.before.loop-i.i + 1) (length cs) (omega arith),
     )))
 
-loop_again : tie.Need-loop-preserved invariant_loop decreases_loop
-loop_again c = (omega arith, omega (arith, c.before.before.before.loop.invariant.1, sum_step c.before.before.before.before.args.counts.now c.before.before.before.loop.i))
+loop_again : tie.Need-loop-i-preserved invariant-loop-i decreases-loop-i
+loop_again c = (omega arith, omega (arith, c.before.before.before.loop-i.invariant.1, sum_step c.before.before.before.before.args.counts.now c.before.before.before.loop-i.i))
 
-returns_2 : tie.Need-returns-2 invariant_loop decreases_loop
+returns_2 : tie.Need-returns invariant-loop-i decreases-loop-i
 returns_2 c = let cs = c.before.before.args.counts.now in
-    let e : c.before.loop.i ≡ length cs = omega arith in left_zero c.before.loop.left (sum_first cs (length cs))
-    c.before.before.args.total (omega (arith, c.before.loop.invariant.1, ap {A = ℕ} (sum_first cs) e))
+    let e : c.before.loop-i.i ≡ length cs = omega arith in left_zero c.before.loop-i.left (sum_first cs (length cs))
+    c.before.before.args.total (omega (arith, c.before.loop-i.invariant.1, ap {A = ℕ} (sum_first cs) e))
 
 pub adds_up_spec : {M : Type 1} → statement M
 adds_up_spec = tie.close (tie.spec
-    invariant_loop decreases_loop (λ c. (omega arith, omega (arith, sum_none c.args.counts.now))) (λ c. search rules) (λ c. search rules) returns
+    invariant-loop-i decreases-loop-i (λ c. (omega arith, omega (arith, sum_none c.args.counts.now))) (λ c. search rules) (λ c. search rules) returns
     (λ c. search rules) (λ c. search rules) loop_again returns_2)

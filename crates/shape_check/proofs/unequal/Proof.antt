@@ -3,24 +3,24 @@ use borrow.Author.Tests.{eq-eqb, ne_eqb}
 use Rattle.shape_check.proofs.unequal.Statement.{statement}
 use Rattle.shape_check.proofs.unequal.Tie as tie
 
-returns_3 : tie.Need-returns-3
-returns_3 c = rw (eq-eqb _ _ c.before.before.before.before.if1.false, eq-eqb _ _ c.before.before.if2.false, ne_eqb _ _ c.if3.true)
+returns_3 : tie.Need-returns-then-s-3
+returns_3 c = rw (eq-eqb _ _ c.before.before.before.before.if-s.false, eq-eqb _ _ c.before.before.if-s-2.false, ne_eqb _ _ c.if-s-3.true)
 
-returns_4 : tie.Need-returns-4
+returns_4 : tie.Need-returns-then-s-4
 returns_4 c = let s = c.before.before.before.before in
-    rw (eq-eqb _ _ s.before.before.if1.false, eq-eqb _ _ s.if2.false, eq-eqb _ _ c.before.before.if3.false, ne_eqb _ _ c.if4.true)
+    rw (eq-eqb _ _ s.before.before.if-s.false, eq-eqb _ _ s.if-s-2.false, eq-eqb _ _ c.before.before.if-s-3.false, ne_eqb _ _ c.if-s-4.true)
 
-returns_5 : tie.Need-returns-5
+returns_5 : tie.Need-returns
 returns_5 c = let s = c.before.before.before.before.before in
     rw (
-      eq-eqb _ _ s.before.before.if1.false,
-      eq-eqb _ _ s.if2.false,
-      eq-eqb _ _ c.before.before.before.if3.false,
+      eq-eqb _ _ s.before.before.if-s.false,
+      eq-eqb _ _ s.if-s-2.false,
+      eq-eqb _ _ c.before.before.before.if-s-3.false,
       eq-eqb _ _
-          c.before.if4.false,
+          c.before.if-s-4.false,
     )
 
 pub unequal_spec : {M : Type 1} → statement M
 unequal_spec = tie.close (tie.spec
-    (λ c. rw (ne_eqb _ _ c.if1.true)) (λ c. rw (eq-eqb _ _ c.before.before.if1.false, ne_eqb _ _ c.if2.true)) returns_3 returns_4
+    (λ c. rw (ne_eqb _ _ c.if-s.true)) (λ c. rw (eq-eqb _ _ c.before.before.if-s.false, ne_eqb _ _ c.if-s-2.true)) returns_3 returns_4
     returns_5)

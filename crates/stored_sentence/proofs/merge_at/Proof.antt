@@ -9,7 +9,7 @@ use borrow.Author.Rules.{rules}
 use Rattle.stored_sentence.proofs.merge_at.Statement.{statement}
 use Rattle.stored_sentence.proofs.merge_at.Tie as tie
 
-merge_into_requires : tie.Need-merge-into-requires
+merge_into_requires : tie.Need-merge_into-requires
 merge_into_requires c κs =
     let b = c.before.before in
     b.requires.mergeable _ (mid_len b.args.at (b.args.at + 2 * length b.args.weights.now) b.args.area.now b.requires.room ∙ omega arith)

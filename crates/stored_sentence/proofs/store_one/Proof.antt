@@ -17,13 +17,13 @@ fits : (c : tie.Start) → Small c.args.area.now c.args.n c.args.all c.args.s c.
 fits c = small c.args.area.now c.args.n c.args.all c.args.s c.args.before c.args.head c.args.kind c.args.side
     c.args.bound c.args.weights.now c.args.literals.now c.requires
 
-merge_at_requires : tie.Need-merge-at-requires
+merge_at_requires : tie.Need-merge_at-set-requires
 merge_at_requires c κs =
     let b = c.before.before in
     merge_asked b.args.area.now b.args.n b.args.all b.args.s b.args.before b.args.head b.args.kind b.args.side
     b.args.bound b.args.weights.now b.args.literals.now b.requires
 
-number_word_requires : tie.Need-number-word-requires
+number_word_requires : tie.Need-number_word-b-requires
 number_word_requires c κs =
     let b = c.before.before.before.before.before in
     subst (λ (z : ℤ). nat_abs z ≤ 1000000000000000000) (sym (to_z-of_z w64 b.args.bound b.ranges.bound)) (fits b).bound_near
@@ -31,10 +31,10 @@ number_word_requires c κs =
 returns : tie.Need-returns
 returns c =
     let b = c.before.before.before.before.before.before.before.before.before.before.before.before.before.before in
-    let merged = c.before.before.before.before.before.before.before.before.before.before.before.merge_at in
-    let word = c.before.before.before.before.before.before.before.before.number_word in
+    let merged = c.before.before.before.before.before.before.before.before.before.before.before.merge_at-set in
+    let word = c.before.before.before.before.before.before.before.before.number_word-b in
     let first = c.before.before.before.before.before.before.put_four in
-    let second = c.before.before.put-four2 in
+    let second = c.before.before.put_four-2 in
     let e : word.result ≡ bias b.args.bound = word.ensures ∙ ap {A = ℤ} bias (to_z-of_z w64 b.args.bound b.ranges.bound) in
     stored b.args.area.now b.args.n b.args.all b.args.s b.args.before b.args.head b.args.kind b.args.side b.args.bound
     b.args.weights.now b.args.literals.now b.requires merged.new.0 first.new.0 second.new.0 merged.result merged.ensures

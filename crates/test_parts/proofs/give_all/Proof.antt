@@ -6,13 +6,13 @@ use lib.ListN.{length}
 use Rattle.test_parts.proofs.give_all.Statement.{statement}
 use Rattle.test_parts.proofs.give_all.Tie as tie
 
-abbrev invariant_loop : tie.invariant_loop
-invariant_loop area₀ literals now₀ i₀ area now i = (i ≤ length literals) × (length area ≡ length area₀)
+abbrev invariant-loop-i : tie.invariant-loop-i
+invariant-loop-i area₀ literals now₀ i₀ area now i = (i ≤ length literals) × (length area ≡ length area₀)
 
-abbrev decreases_loop : tie.decreases_loop
-decreases_loop area₀ literals now₀ i₀ area now i = length literals - i
+abbrev decreases-loop-i : tie.decreases-loop-i
+decreases-loop-i area₀ literals now₀ i₀ area now i = length literals - i
 
 pub give_all_spec : {M : Type 1} → statement M
 give_all_spec = tie.close (tie.spec
-    invariant_loop decreases_loop (λ c κs. search rules) (λ c. search rules) (λ c. search rules) (λ c. search rules) (λ c. search rules) (λ c κs. search rules)
+    invariant-loop-i decreases-loop-i (λ c κs. search rules) (λ c. search rules) (λ c. search rules) (λ c. search rules) (λ c. search rules) (λ c κs. search rules)
     (λ c. search rules) (λ c. search rules) (λ c. search rules) (λ c. search rules))

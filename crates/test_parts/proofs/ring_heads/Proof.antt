@@ -6,13 +6,13 @@ use lib.ListN.{length}
 use Rattle.test_parts.proofs.ring_heads.Statement.{statement}
 use Rattle.test_parts.proofs.ring_heads.Tie as tie
 
-abbrev invariant_loop : tie.invariant_loop
-invariant_loop heads₀ i₀ heads i = (i ≤ 256) × (length heads ≡ 256)
+abbrev invariant-loop-i : tie.invariant-loop-i
+invariant-loop-i heads₀ i₀ heads i = (i ≤ 256) × (length heads ≡ 256)
 
-abbrev decreases_loop : tie.decreases_loop
-decreases_loop heads₀ i₀ heads i = 256 - i
+abbrev decreases-loop-i : tie.decreases-loop-i
+decreases-loop-i heads₀ i₀ heads i = 256 - i
 
 pub ring_heads_spec : {M : Type 1} → statement M
 ring_heads_spec = tie.close (tie.spec
-    invariant_loop decreases_loop (λ c. search rules) (λ c. search rules) (λ c. search rules) (λ c. search rules) (λ c. search rules) (λ c. search rules)
+    invariant-loop-i decreases-loop-i (λ c. search rules) (λ c. search rules) (λ c. search rules) (λ c. search rules) (λ c. search rules) (λ c. search rules)
     (λ c. search rules) (λ c. search rules))

@@ -8,15 +8,15 @@ use Rattle.trail_check.specs.Inner.Places.{RowOk}
 use Rattle.trail_check.proofs.places_ok.Statement.{statement}
 use Rattle.trail_check.proofs.places_ok.Tie as tie
 
-abbrev invariant_loop : tie.invariant_loop
-invariant_loop area n len i₀ i = (i ≤ len) × ((k : ℕ) → k < i → RowOk area n k)
+abbrev invariant-loop-i : tie.invariant-loop-i
+invariant-loop-i area n len i₀ i = (i ≤ len) × ((k : ℕ) → k < i → RowOk area n k)
 
-abbrev decreases_loop : tie.decreases_loop
-decreases_loop area n len i₀ i = len - i
+abbrev decreases-loop-i : tie.decreases-loop-i
+decreases-loop-i area n len i₀ i = len - i
 
 pub places_ok_spec : {M : Type 1} → statement M
 places_ok_spec = tie.close (tie.spec
-    invariant_loop decreases_loop (λ c. (omega arith, below_none _)) (λ c κs. search rules)
-    (λ c. told_no (λ h. denied c.before.place_ok.ensures c.if1.true (h _ (omega arith)))) (λ c. search rules) (λ c. search rules)
-    (λ c. (omega arith, below_more _ _ c.before.before.before.loop.invariant.1 (granted c.before.place_ok.ensures c.if1.false)))
-    (λ c. told_yes (λ k l. c.before.loop.invariant.1 k (omega arith))))
+    invariant-loop-i decreases-loop-i (λ c. (omega arith, below_none _)) (λ c κs. search rules)
+    (λ c. told_no (λ h. denied c.before.place_ok.ensures c.if-not-place_ok.true (h _ (omega arith)))) (λ c. search rules) (λ c. search rules)
+    (λ c. (omega arith, below_more _ _ c.before.before.before.loop-i.invariant.1 (granted c.before.place_ok.ensures c.if-not-place_ok.false)))
+    (λ c. told_yes (λ k l. c.before.loop-i.invariant.1 k (omega arith))))

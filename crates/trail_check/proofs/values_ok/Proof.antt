@@ -8,16 +8,16 @@ use Rattle.trail_check.specs.Inner.Places.{ValueOk}
 use Rattle.trail_check.proofs.values_ok.Statement.{statement}
 use Rattle.trail_check.proofs.values_ok.Tie as tie
 
-abbrev invariant_loop : tie.invariant_loop
-invariant_loop area n len a₀ a = (1 ≤ a) × (a ≤ suc n) × ((k : ℕ) → k < a → 1 ≤ k → ValueOk area n len k)
+abbrev invariant-loop-a : tie.invariant-loop-a
+invariant-loop-a area n len a₀ a = (1 ≤ a) × (a ≤ suc n) × ((k : ℕ) → k < a → 1 ≤ k → ValueOk area n len k)
 
-abbrev decreases_loop : tie.decreases_loop
-decreases_loop area n len a₀ a = suc n - a
+abbrev decreases-loop-a : tie.decreases-loop-a
+decreases-loop-a area n len a₀ a = suc n - a
 
 pub values_ok_spec : {M : Type 1} → statement M
 values_ok_spec = tie.close (tie.spec
-    invariant_loop decreases_loop (λ c. (omega arith, omega arith, λ k l m. absurd (omega arith))) (λ c κs. search rules)
-    (λ c. told_no (λ h. denied c.before.value_ok.ensures c.if1.true (h _ (omega arith) (omega arith)))) (λ c. search rules)
+    invariant-loop-a decreases-loop-a (λ c. (omega arith, omega arith, λ k l m. absurd (omega arith))) (λ c κs. search rules)
+    (λ c. told_no (λ h. denied c.before.value_ok.ensures c.if-not-value_ok.true (h _ (omega arith) (omega arith)))) (λ c. search rules)
     (λ c. search rules)
-    (λ c. (omega arith, omega arith, below_more _ _ c.before.before.before.loop.invariant.2 (λ _. granted c.before.value_ok.ensures c.if1.false)))
-    (λ c. told_yes (λ k m l. c.before.loop.invariant.2 k (omega arith) m)))
+    (λ c. (omega arith, omega arith, below_more _ _ c.before.before.before.loop-a.invariant.2 (λ _. granted c.before.value_ok.ensures c.if-not-value_ok.false)))
+    (λ c. told_yes (λ k m l. c.before.loop-a.invariant.2 k (omega arith) m)))

@@ -8,12 +8,12 @@ use Rattle.trail_lines.proofs.put_row.Tie as tie
 
 returns : tie.Need-returns
 returns c = let s = c.before.before.before.before.before.before.before.before.before.before.before.before.before.before.before.before.before.before.before.before.before in
-    let first = named_put (bytes "t ") s.args.literal s.fits.literal
-    c.before.before.before.before.before.before.before.before.before.before.before.before.before.before.before.before.before.put_named.ensures in
-    let second = then_named (bytes " ") s.args.level first (named_put (bytes " ") s.args.level s.fits.level
-    c.before.before.before.before.before.before.before.before.before.before.before.before.put-named2.ensures) in
-    then (then_named (bytes " ") s.args.reason second (named_put (bytes " ") s.args.reason s.fits.reason
-    c.before.before.before.before.before.before.before.put-named3.ensures)) c.before.before.put_bytes.ensures
+    let first = named_put (bytes "t ") s.args.literal s.ranges.literal
+    c.before.before.before.before.before.before.before.before.before.before.before.before.before.before.before.before.before.put_named-first.ensures in
+    let second = then_named (bytes " ") s.args.level first (named_put (bytes " ") s.args.level s.ranges.level
+    c.before.before.before.before.before.before.before.before.before.before.before.before.put_named-second.ensures) in
+    then (then_named (bytes " ") s.args.reason second (named_put (bytes " ") s.args.reason s.ranges.reason
+    c.before.before.before.before.before.before.before.put_named-third.ensures)) c.before.before.put_bytes.ensures
 
 pub put_row_spec : {M : Type 1} → statement M
 put_row_spec = tie.close (tie.spec

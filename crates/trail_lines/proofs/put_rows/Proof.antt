@@ -9,19 +9,19 @@ use borrow.Author.Rules.{rules}
 use Rattle.trail_lines.proofs.put_rows.Statement.{statement}
 use Rattle.trail_lines.proofs.put_rows.Tie as tie
 
-abbrev invariant_loop : tie.invariant_loop
-invariant_loop page₀ at list rows place₀ row₀ page place row = (row ≤ rows) × Writes page₀ at page place (row_lines list row)
+abbrev invariant-loop-row : tie.invariant-loop-row
+invariant-loop-row page₀ at list rows place₀ row₀ page place row = (row ≤ rows) × Writes page₀ at page place (row_lines list row)
 
-abbrev decreases_loop : tie.decreases_loop
-decreases_loop page₀ at list rows place₀ row₀ page place row = rows - row
+abbrev decreases-loop-row : tie.decreases-loop-row
+decreases-loop-row page₀ at list rows place₀ row₀ page place row = rows - row
 
 pub put_rows_spec : {M : Type 1} → statement M
 put_rows_spec = tie.close (tie.spec
-    invariant_loop decreases_loop (λ c. let a = c.before.args in (omega arith, no_rows a.list.now a.page.now a.at)) (λ c. search rules)
+    invariant-loop-row decreases-loop-row (λ c. let a = c.before.args in (omega arith, no_rows a.list.now a.page.now a.at)) (λ c. search rules)
     (λ c. search rules) (λ c. search rules) (λ c. search rules) (λ c. search rules) (λ c. search rules) (λ c. search rules) (λ c. search rules)
     (λ c. search rules) (λ c. search rules) (λ c. search rules) (λ c κs. search rules) (λ c. search rules) (λ c. search rules)
-    (λ c. let l = c.before.before.before.before.before.before.before.before.loop in let a =
+    (λ c. let l = c.before.before.before.before.before.before.before.before.loop-row in let a =
     c.before.before.before.before.before.before.before.before.before.before.args in
-    (omega arith, row_more a.list.now l.row (search rules) (search rules) (search rules) l.invariant.1 c.before.before.put_row.ensures))
-    (λ c. c.before.loop.invariant.1.size)
-    (λ c. let i = c.before.loop.invariant in counted_up (row_lines c.before.before.before.args.list.now) (omega (arith, i.0)) i.1))
+    (omega arith, row_more a.list.now l.row (search rules) (search rules) (search rules) l.invariant.1 c.before.before.put_row-place.ensures))
+    (λ c. c.before.loop-row.invariant.1.size)
+    (λ c. let i = c.before.loop-row.invariant in counted_up (row_lines c.before.before.before.args.list.now) (omega (arith, i.0)) i.1))

@@ -14,11 +14,11 @@ pub put_trail_spec : {M : Type 1} → statement M
 put_trail_spec = tie.close (tie.spec
     (λ c. search rules) (λ c κs. search rules) (λ c. search rules)
     (λ c. rw (ne_eqb c.before.before.before.before.before.before.before.before.args.answer.code 0
-    c.before.before.before.before.before.if1.true) c.before.before.put_pair.ensures)
+    c.before.before.before.before.before.if-answer-ne0.true) c.before.before.put_pair.ensures)
     (λ c κs. search rules) (λ c κs. omega (arith, c.before.ListedOf.ensures.0)) (λ c. search rules) (λ c κs. search rules) (λ c. search rules)
     (λ c. let a = c.before.before.before.before.before.before.before.before.before.before.before.before.before.before.args in
     let rows = counted_up (row_lines a.list.now) (ap (λ (n : ℕ). n / 3)
     c.before.before.before.before.before.before.before.before.before.before.ListedOf.ensures.1)
-    c.before.before.before.before.before.before.before.before.put_rows.ensures in
-    rw (eq-eqb a.answer.code 0 c.before.before.before.before.before.before.before.before.before.before.before.if1.false)
+    c.before.before.before.before.before.before.before.before.put_rows-end.ensures in
+    rw (eq-eqb a.answer.code 0 c.before.before.before.before.before.before.before.before.before.before.before.if-answer-ne0.false)
     (then_line (bytes "trail ") _ rows c.before.before.put_line.ensures)))

@@ -7,11 +7,11 @@ use Rattle.columns.proofs.Clauses.{of_element}
 use Rattle.weight_check.proofs.out_of_range.Statement.{statement}
 use Rattle.weight_check.proofs.out_of_range.Tie as tie
 
-returns_2 : tie.Need-returns-2
+returns_2 : tie.Need-returns
 returns_2 c = let t : c.bound_ok.result ≡ bound_fits c.before.before.before.args.bound = c.bound_ok.ensures ∙ of_element bound_fits
     c.before.before.before.args.bound c.before.before.before.ranges.bound in
-    rw (sym c.before.before.unfit.ensures ∙ c.before.if1.false) (ap not t)
+    rw (sym c.before.before.unfit.ensures ∙ c.before.if-unfit.false) (ap not t)
 
 pub out_of_range_spec : {M : Type 1} → statement M
 out_of_range_spec = tie.close (tie.spec
-    (λ c κs. search rules) (λ c. rw (sym c.before.unfit.ensures ∙ c.if1.true)) (λ c κs. search rules) returns_2)
+    (λ c κs. search rules) (λ c. rw (sym c.before.unfit.ensures ∙ c.if-unfit.true)) (λ c κs. search rules) returns_2)

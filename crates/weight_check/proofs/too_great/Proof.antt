@@ -19,11 +19,11 @@ use Rattle.columns.proofs.Clauses.{of_element, product_weight}
 use Rattle.weight_check.proofs.too_great.Statement.{statement}
 use Rattle.weight_check.proofs.too_great.Tie as tie
 
-abbrev invariant_loop : tie.invariant_loop
-invariant_loop weights x₀ i₀ x i = (i ≤ length weights) × (x ≡ product_below i (λ k. nat_abs (nth weights k))) × (x ≤ 1000000000000000000)
+abbrev invariant-loop-i : tie.invariant-loop-i
+invariant-loop-i weights x₀ i₀ x i = (i ≤ length weights) × (x ≡ product_below i (λ k. nat_abs (nth weights k))) × (x ≤ 1000000000000000000)
 
-abbrev decreases_loop : tie.decreases_loop
-decreases_loop weights x₀ i₀ x i = length weights - i
+abbrev decreases-loop-i : tie.decreases-loop-i
+decreases-loop-i weights x₀ i₀ x i = length weights - i
 
 -- every weight is at least 1
 low : (ws : List ℤ) → unfit_weights 1 ws ≡ false → (j : ℕ) → j < length ws → 1 ≤ nat_abs (nth ws j)
@@ -35,38 +35,38 @@ record Known (ws : List ℤ) (i x w : ℕ) : Type 0 where
   pub next : x * w ≡ product_below (i + 1) (λ k. nat_abs (nth ws k))
   pub grown : product_below (i + 1) (λ k. nat_abs (nth ws k)) ≤ product_below (length ws) (λ k. nat_abs (nth ws k))
 
-known : (c : tie.After-size invariant_loop decreases_loop) → Known c.before.before.before.before.args.weights.now c.before.before.before.loop.i
-    c.before.before.before.loop.product c.size.result
+known : (c : tie.After-size-w invariant-loop-i decreases-loop-i) → Known c.before.before.before.before.args.weights.now c.before.before.before.loop-i.i
+    c.before.before.before.loop-i.product c.size-w.result
 known c =
     let ws = c.before.before.before.before.args.weights.now in
-    let i = c.before.before.before.loop.i in
-    let e : c.size.result ≡ nat_abs (nth ws i) = c.size.ensures ∙ of_element nat_abs (nth ws i) (record { sfits = c.before.weight.given }) in
+    let i = c.before.before.before.loop-i.i in
+    let e : c.size-w.result ≡ nat_abs (nth ws i) = c.size-w.ensures ∙ of_element nat_abs (nth ws i) (record { sfits = c.before.weight-1.given }) in
     let l = low ws c.before.before.before.before.requires i (omega arith) in
     record {
       positive = omega (arith, l);
-      next = ap₂ {A = ℕ} {B = ℕ} (λ a b. a * b) c.before.before.before.loop.invariant.1 e ∙ sym (product_step i (λ k. nat_abs (nth ws k)));
+      next = ap₂ {A = ℕ} {B = ℕ} (λ a b. a * b) c.before.before.before.loop-i.invariant.1 e ∙ sym (product_step i (λ k. nat_abs (nth ws k)));
       grown = product_grows (λ k. nat_abs (nth ws k)) (i + 1) (length ws) (omega arith) (low ws c.before.before.before.before.requires);
     }
 
-returns : tie.Need-returns invariant_loop decreases_loop
+returns : tie.Need-returns-then-product-w invariant-loop-i decreases-loop-i
 returns c = let k = known c.before in
     let ws = c.before.before.before.before.before.args.weights.now in
-    let g : 1000000000000000000 < c.before.before.before.before.loop.product * c.before.size.result = (div-lt_iff_lt-mul k.positive).0 c.if1.true in
+    let g : 1000000000000000000 < c.before.before.before.before.loop-i.product * c.before.size-w.result = (div-lt_iff_lt-mul k.positive).0 c.if-product-w.true in
     sym (lt-ltb 1000000000000000000 (product_below (length ws) (λ k. nat_abs (nth ws k))) (omega (arith, k.next, k.grown)))
 
-mul_product : tie.Need-overflow-mul-product invariant_loop decreases_loop
-mul_product c = let h : c.before.before.before.before.loop.product * c.before.size.result ≤ 1000000000000000000 = (le-div_iff_mul-le
-    (known c.before).positive).0 c.if1.false in omega arith
+mul_product : tie.Need-overflow-mul-product invariant-loop-i decreases-loop-i
+mul_product c = let h : c.before.before.before.before.loop-i.product * c.before.size-w.result ≤ 1000000000000000000 = (le-div_iff_mul-le
+    (known c.before).positive).0 c.if-product-w.false in omega arith
 
-loop_again : tie.Need-loop-preserved invariant_loop decreases_loop
-loop_again c = let k = known c.before in (omega arith, k.next, (le-div_iff_mul-le k.positive).0 c.if1.false)
+loop_again : tie.Need-loop-i-preserved invariant-loop-i decreases-loop-i
+loop_again c = let k = known c.before in (omega arith, k.next, (le-div_iff_mul-le k.positive).0 c.if-product-w.false)
 
-returns_2 : tie.Need-returns-2 invariant_loop decreases_loop
+returns_2 : tie.Need-returns invariant-loop-i decreases-loop-i
 returns_2 c = let ws = c.before.before.args.weights.now in
-    let e : c.before.loop.i ≡ length ws = omega arith in
+    let e : c.before.loop-i.i ≡ length ws = omega arith in
     sym (le-ltb 1000000000000000000 (product_below (length ws) (λ k. nat_abs (nth ws k))) (omega (arith, ap {A = ℕ} (λ n. product_below n (λ k. nat_abs (nth ws k))) e)))
 
 pub too_great_spec : {M : Type 1} → statement M
 too_great_spec = tie.close (tie.spec
-    invariant_loop decreases_loop (λ c. (omega arith, sym (product_none _), omega arith)) (λ c. search rules) (λ c. search rules) (λ c κs. search rules)
+    invariant-loop-i decreases-loop-i (λ c. (omega arith, sym (product_none _), omega arith)) (λ c. search rules) (λ c. search rules) (λ c κs. search rules)
     (λ c. (known c).positive) returns mul_product (λ c. search rules) (λ c. search rules) loop_again returns_2)

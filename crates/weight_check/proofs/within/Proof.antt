@@ -17,14 +17,14 @@ greatest c = to_z-of_z w64 c.args.greatest c.ranges.greatest
 weight : (c : tie.Start) → to_z w64 (of_z w64 c.args.w) ≡ c.args.w
 weight c = to_z-of_z w64 c.args.w c.ranges.w
 
-returns : tie.Need-returns
+returns : tie.Need-returns-then-least-w
 returns c =
-    let t : le_z c.before.args.least c.before.args.w ≡ true = rw (least c.before, weight c.before) at c.if1.true in
+    let t : le_z c.before.args.least c.before.args.w ≡ true = rw (least c.before, weight c.before) at c.if-least-w.true in
     rw (weight c.before, greatest c.before, t)
 
-returns_2 : tie.Need-returns-2
+returns_2 : tie.Need-returns-else-least-w
 returns_2 c =
-    let t : le_z c.before.args.least c.before.args.w ≡ false = rw (least c.before, weight c.before) at c.if1.false in
+    let t : le_z c.before.args.least c.before.args.w ≡ false = rw (least c.before, weight c.before) at c.if-least-w.false in
     rw t
 
 pub within_spec : {M : Type 1} → statement M

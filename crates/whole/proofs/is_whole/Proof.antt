@@ -15,48 +15,48 @@ use Rattle.whole.proofs.is_whole.Statement.{statement}
 use Rattle.whole.proofs.is_whole.Tie as tie
 
 -- what the parts passed have told, for the numbers of atoms and sentences that were read
-header : (c : tie.Else1) → let s = c.before.before.before in HeaderOk s.args.lim s.args.area.now s.args.len s.args.level
-header c = granted c.before.header_ok.ensures c.if1.false
+header : (c : tie.Else-not-header_ok) → let s = c.before.before.before in HeaderOk s.args.lim s.args.area.now s.args.len s.args.level
+header c = granted c.before.header_ok.ensures c.if-not-header_ok.false
 
-trail_right : (c : tie.Else2) → let s = c.before.before.before.before.before.before.before in
-    TrailOk s.args.area.now c.before.before.before.atoms_of.result s.args.len s.args.level
-trail_right c = granted c.before.trail_ok.ensures c.if2.false
+trail_right : (c : tie.Else-not-trail_ok) → let s = c.before.before.before.before.before.before.before in
+    TrailOk s.args.area.now c.before.before.before.atoms_of-n.result s.args.len s.args.level
+trail_right c = granted c.before.trail_ok.ensures c.if-not-trail_ok.false
 
-places : (c : tie.Else3) → let s = c.before.before.before.before.before.before.before.before.before in
-    PlacesOk s.args.lim s.args.area.now c.before.before.before.before.before.atoms_of.result c.before.before.before.before.sentences_of.result
-places c = granted c.before.places_ok.ensures c.if3.false
+places : (c : tie.Else-not-places_ok) → let s = c.before.before.before.before.before.before.before.before.before in
+    PlacesOk s.args.lim s.args.area.now c.before.before.before.before.before.atoms_of-n.result c.before.before.before.before.sentences_of-sentences.result
+places c = granted c.before.places_ok.ensures c.if-not-places_ok.false
 
-sentences : (c : tie.After-sentences-ok) → let s = c.before.before.before.before.before.before.before.before.before.before in
+sentences : (c : tie.After-sentences_ok) → let s = c.before.before.before.before.before.before.before.before.before.before in
     Tells c.sentences_ok.result (AllRight s.args.lim s.args.area.now
-    c.before.before.before.before.before.before.atoms_of.result c.before.before.before.before.before.sentences_of.result s.args.len)
+    c.before.before.before.before.before.before.atoms_of-n.result c.before.before.before.before.before.sentences_of-sentences.result s.args.len)
 sentences c = c.sentences_ok.ensures _ (shows (trail_right c.before.before.before))
 
 -- what wholeness gives, for these numbers
-held : (c : tie.After-sentences-of) → let s = c.before.before.before.before.before in Whole s.args.lim s.args.area.now (counters_with s.args.len s.args.level)
-    → PartsHeld s.args.lim s.args.area.now c.before.atoms_of.result c.sentences_of.result s.args.len s.args.level
-held c = parts_at _ _ _ _ _ _ (sym c.before.atoms_of.ensures) (sym c.sentences_of.ensures)
+held : (c : tie.After-sentences_of-sentences) → let s = c.before.before.before.before.before in Whole s.args.lim s.args.area.now (counters_with s.args.len s.args.level)
+    → PartsHeld s.args.lim s.args.area.now c.before.atoms_of-n.result c.sentences_of-sentences.result s.args.len s.args.level
+held c = parts_at _ _ _ _ _ _ (sym c.before.atoms_of-n.ensures) (sym c.sentences_of-sentences.ensures)
 
-returns_5 : tie.Need-returns-5
+returns_5 : tie.Need-returns
 returns_5 c = told_same c.reasons_ok.ensures
-    (λ r. joined_at _ _ _ _ _ _ (sym c.before.before.before.before.before.before.before.before.atoms_of.ensures)
-    (sym c.before.before.before.before.before.before.before.sentences_of.ensures) (header c.before.before.before.before.before.before.before.before.before)
+    (λ r. joined_at _ _ _ _ _ _ (sym c.before.before.before.before.before.before.before.before.atoms_of-n.ensures)
+    (sym c.before.before.before.before.before.before.before.sentences_of-sentences.ensures) (header c.before.before.before.before.before.before.before.before.before)
     (record {
       trail_ok = trail_right c.before.before.before.before.before;
       places = places c.before.before.before;
-      sentences = granted (sentences c.before.before) c.before.if4.false;
+      sentences = granted (sentences c.before.before) c.before.if-not-sentences_ok.false;
       reasons = r;
     }))
     (λ h. (held c.before.before.before.before.before.before.before h).reasons)
 
 pub is_whole_spec : {M : Type 1} → statement M
 is_whole_spec = tie.close (tie.spec
-    (λ c κs. search rules) (λ c. told_no (λ h. denied c.before.header_ok.ensures c.if1.true (parts _ _ _ _ h).header))
+    (λ c κs. search rules) (λ c. told_no (λ h. denied c.before.header_ok.ensures c.if-not-header_ok.true (parts _ _ _ _ h).header))
     (λ c κs. omega (arith, header c)) (λ c κs. omega (arith, header c.before)) (λ c κs. let h = header c.before.before in search arith)
-    (λ c. told_no (λ h. denied c.before.trail_ok.ensures c.if2.true (held c.before.before h).trail_ok))
+    (λ c. told_no (λ h. denied c.before.trail_ok.ensures c.if-not-trail_ok.true (held c.before.before h).trail_ok))
     (λ c κs. let h = header c.before.before.before.before in search arith)
-    (λ c. told_no (λ h. denied c.before.places_ok.ensures c.if3.true (held c.before.before.before.before h).places))
+    (λ c. told_no (λ h. denied c.before.places_ok.ensures c.if-not-places_ok.true (held c.before.before.before.before h).places))
     (λ c κs. let h = header c.before.before.before.before.before.before in let p = places c in search arith)
-    (λ c. told_no (λ h. denied (sentences c.before) c.if4.true (held c.before.before.before.before.before.before h).sentences))
+    (λ c. told_no (λ h. denied (sentences c.before) c.if-not-sentences_ok.true (held c.before.before.before.before.before.before h).sentences))
     (λ c κs. let h = header c.before.before.before.before.before.before.before.before in let p = places c.before.before in
     let l = literals (trail_right c.before.before.before.before) in search arith)
     returns_5)

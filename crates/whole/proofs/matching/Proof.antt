@@ -8,17 +8,17 @@ use Rattle.whole.proofs.matching.Tie as tie
 
 pub matching_spec : {M : Type 1} → statement M
 matching_spec = tie.close (tie.spec
-    (λ c κs. search rules) (λ c κs. search rules) (λ c. least_differs c.before.before.extremes_of.ensures (λ e. omega arith))
-    (λ c κs. search rules) (λ c. greatest_differs c.before.before.before.before.extremes_of.ensures (λ e. omega arith)) (λ c κs. search rules)
-    (λ c. marked c.before.before.before.before.before.before.extremes_of.ensures (omega arith) (omega arith) (sym c.before.pending_at.ensures ∙ c.if3.true))
+    (λ c κs. search rules) (λ c κs. search rules) (λ c. least_differs c.before.before.extremes_of-found.ensures (λ e. omega arith))
+    (λ c κs. search rules) (λ c. greatest_differs c.before.before.before.before.extremes_of-found.ensures (λ e. omega arith)) (λ c κs. search rules)
+    (λ c. marked c.before.before.before.before.before.before.extremes_of-found.ensures (omega arith) (omega arith) (sym c.before.pending_at.ensures ∙ c.if-pending_at.true))
     (λ c κs. search rules)
-    (λ c. silent c.before.before.before.before.before.before.before.before.extremes_of.ensures (omega arith) (omega arith) (c.before.settled.ensures c.if4.true) refl)
+    (λ c. silent c.before.before.before.before.before.before.before.before.extremes_of-found.ensures (omega arith) (omega arith) (c.before.settled.ensures c.if-settled.true) refl)
     (λ c κs. search rules) (λ c. search rules) (λ c. search rules) (λ c. search rules)
-    (λ c. silent c.before.before.before.before.before.before.before.before.before.before.before.extremes_of.ensures (omega arith)
-    (omega arith) c.before.before.says.ensures c.enum_told.given.1)
-    (λ c. in_conflict c.before.before.before.before.before.before.before.before.before.before.before.extremes_of.ensures
-    (omega arith) (omega arith) c.before.before.says.ensures (sym c.before.before.before.before.before.before.pending_at.ensures
-    ∙ c.before.before.before.before.before.if3.false) c.enum-told2.given.1)
-    (λ c. forcing c.before.before.before.before.before.before.before.before.before.before.before.extremes_of.ensures (omega arith)
-    (omega arith) c.before.before.says.ensures (sym c.before.before.before.before.before.before.pending_at.ensures
-    ∙ c.before.before.before.before.before.if3.false) _ c.enum-told3.given.1))
+    (λ c. silent c.before.before.before.before.before.before.before.before.before.before.before.extremes_of-found.ensures (omega arith)
+    (omega arith) c.before.before.says-said.ensures c.enum_told-1.given.1)
+    (λ c. in_conflict c.before.before.before.before.before.before.before.before.before.before.before.extremes_of-found.ensures
+    (omega arith) (omega arith) c.before.before.says-said.ensures (sym c.before.before.before.before.before.before.pending_at.ensures
+    ∙ c.before.before.before.before.before.if-pending_at.false) c.enum_told-in-Conflict-1.given.1)
+    (λ c. forcing c.before.before.before.before.before.before.before.before.before.before.before.extremes_of-found.ensures (omega arith)
+    (omega arith) c.before.before.says-said.ensures (sym c.before.before.before.before.before.before.pending_at.ensures
+    ∙ c.before.before.before.before.before.if-pending_at.false) _ c.enum_told-in-Forced-1.given.1))

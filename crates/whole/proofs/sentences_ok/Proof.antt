@@ -10,25 +10,25 @@ use Rattle.whole.proofs.CheckSentences.{Passed, none_passed, inside, checkable, 
 use Rattle.whole.proofs.sentences_ok.Statement.{statement}
 use Rattle.whole.proofs.sentences_ok.Tie as tie
 
-abbrev invariant_loop : tie.invariant_loop
-invariant_loop area lim n count seen₀ s₀ seen s = Passed lim area n count s seen
+abbrev invariant-loop-s : tie.invariant-loop-s
+invariant-loop-s area lim n count seen₀ s₀ seen s = Passed lim area n count s seen
 
-abbrev decreases_loop : tie.decreases_loop
-decreases_loop area lim n count seen₀ s₀ seen s = count - s
+abbrev decreases-loop-s : tie.decreases-loop-s
+decreases-loop-s area lim n count seen₀ s₀ seen s = count - s
 
 -- the sentence's words are inside
-own_inside : (c : tie.In-loop invariant_loop decreases_loop) → record_at c.before.before.before.args.n c.before.loop.s + 8 ≤ length c.before.before.before.args.area.now
-own_inside c = inside c.before.before.before.requires c.before.loop.s c.loop-test.true
+own_inside : (c : tie.In-loop-s invariant-loop-s decreases-loop-s) → record_at c.before.before.before.args.n c.before.loop-s.s + 8 ≤ length c.before.before.before.args.area.now
+own_inside c = inside c.before.before.before.requires c.before.loop-s.s c.loop-s-test.true
 
 pub sentences_ok_spec : {M : Type 1} → statement M
 sentences_ok_spec = tie.close (tie.spec
-    invariant_loop decreases_loop (λ c. none_passed c.before.requires) (λ c. omega (arith, own_inside c)) (λ c. omega (arith, own_inside c))
-    (λ c. omega (arith, own_inside c)) (λ c. sym c.before.before.loop.invariant.stamps.size) (λ c. search rules) (λ c κs. search checkable)
-    (λ c. words_wrong c.before.before.before.before.before.before.before.requires c.before.before.before.before.before.loop.s
-    c.before.before.before.before.loop-test.true (denied c.before.before.sentence_ok.ensures.tells c.if1.true))
-    (λ c κs. search (ready, granted c.before.before.sentence_ok.ensures.tells c.if1.false))
+    invariant-loop-s decreases-loop-s (λ c. none_passed c.before.requires) (λ c. omega (arith, own_inside c)) (λ c. omega (arith, own_inside c))
+    (λ c. omega (arith, own_inside c)) (λ c. sym c.before.before.loop-s.invariant.stamps.size) (λ c. search rules) (λ c κs. search checkable)
+    (λ c. words_wrong c.before.before.before.before.before.before.before.requires c.before.before.before.before.before.loop-s.s
+    c.before.before.before.before.loop-s-test.true (denied c.before.before.sentence_ok.ensures.tells c.if-not-sentence_ok.true))
+    (λ c κs. search (ready, granted c.before.before.sentence_ok.ensures.tells c.if-not-sentence_ok.false))
     (λ c. matching_wrong c.before.before.before.before.before.before.before.before.before.requires
-    c.before.before.before.before.before.before.before.loop.s c.before.before.before.before.before.before.loop-test.true c.before.matching.ensures c.if2.true)
+    c.before.before.before.before.before.before.before.loop-s.s c.before.before.before.before.before.before.loop-s-test.true c.before.matching.ensures c.if-not-matching.true)
     (λ c. search rules) (λ c. search rules)
-    (λ c. search (one_passed, granted c.before.before.before.before.sentence_ok.ensures.tells c.before.before.if1.false))
-    (λ c. all_passed c.before.before.before.requires c.before.loop.s _ c.before.loop.invariant (omega arith)))
+    (λ c. search (one_passed, granted c.before.before.before.before.sentence_ok.ensures.tells c.before.before.if-not-sentence_ok.false))
+    (λ c. all_passed c.before.before.before.requires c.before.loop-s.s _ c.before.loop-s.invariant (omega arith)))

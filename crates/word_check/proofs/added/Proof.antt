@@ -7,12 +7,12 @@ use Rattle.word_check.proofs.added.Tie as tie
 
 pub added_spec : {M : Type 1} → statement M
 added_spec = tie.close (tie.spec
-    (λ c. told_no (λ h. odd_other c.before.args.literal c.before.requires.1 c.if1.true h.itself))
-    (λ c. told_no (λ h. h.something (no_weight c.before.before.args.weight c.if2.true))) (λ c. search rules) (λ c κs. search rules)
+    (λ c. told_no (λ h. odd_other c.before.args.literal c.before.requires.1 c.if-literal-ne0.true h.itself))
+    (λ c. told_no (λ h. h.something (no_weight c.before.before.args.weight c.if-weight-eq-HALF.true))) (λ c. search rules) (λ c κs. search rules)
     (λ c. told_same c.near.ensures
     (λ p. record {
-      itself = itself_even c.before.before.before.args.literal c.before.before.if1.false;
-      something = some_weight c.before.before.before.args.weight c.before.if2.false;
+      itself = itself_even c.before.before.before.args.literal c.before.before.if-literal-ne0.false;
+      something = some_weight c.before.before.before.args.weight c.before.if-weight-eq-HALF.false;
       size = p;
     })
     (λ q. q.size)))

@@ -7,5 +7,5 @@ use Rattle.word_check.proofs.constant_ok.Tie as tie
 
 pub constant_ok_spec : {M : Type 1} → statement M
 constant_ok_spec = tie.close (tie.spec
-    (λ c. search rules) (λ c κs. search rules) (λ c. rw c.before.if1.true c.near.ensures) (λ c. search rules) (λ c κs. search rules)
-    (λ c. rw c.before.if2.true c.near2.ensures) (λ c. constant_other _ _ _ c.before.if1.false c.if2.false (told_equal _ 0)))
+    (λ c. search rules) (λ c κs. search rules) (λ c. rw c.before.if-kind-eq0.true c.near.ensures) (λ c. search rules) (λ c κs. search rules)
+    (λ c. rw c.before.if-kind-eq2.true c.near-then-kind-eq2.ensures) (λ c. constant_other _ _ _ c.before.if-kind-eq0.false c.if-kind-eq2.false (told_equal _ 0)))

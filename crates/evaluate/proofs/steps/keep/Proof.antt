@@ -5,4 +5,4 @@ use Rattle.evaluate.proofs.steps.keep.Tie as tie
 pub keep_spec : {M : Type 1} → statement M
 keep_spec = tie.close
     (tie.spec
-    (λ c. rw c.if1.true) (λ c. rw c.if1.false))
+    (λ c. rw c.if-up.true) (λ c. rw c.if-up.false))

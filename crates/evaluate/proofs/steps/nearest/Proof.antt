@@ -7,5 +7,5 @@ pub nearest_spec : {M : Type 1} → statement M
 nearest_spec =
     tie.close
     (tie.spec
-    (λ c. rw c.before.if1.true (omega arith)) (λ c. rw c.before.if1.true (omega arith))
-    (λ c. rw c.before.if1.false (omega arith)) (λ c. rw c.before.if1.false (omega arith)))
+    (λ c. rw c.before.if-up.true (omega arith)) (λ c. rw c.before.if-up.true (omega arith))
+    (λ c. rw c.before.if-up.false (omega arith)) (λ c. rw c.before.if-up.false (omega arith)))

@@ -7,5 +7,5 @@ use Rattle.evaluate.proofs.steps.reach.Tie as tie
 pub reach_spec : {M : Type 1} → statement M
 reach_spec = tie.close
     (tie.spec
-    (λ c κs. search rules) (λ c. rw (eq-eqb _ _ c.before.if1.true) c.furthest.ensures)
-    (λ c. rw (ne_eqb _ _ c.before.if1.false, eq-eqb _ _ c.if2.true)) (λ c. rw (ne_eqb _ _ c.before.if1.false, ne_eqb _ _ c.if2.false)))
+    (λ c κs. search rules) (λ c. rw (eq-eqb _ _ c.before.if-v-eq0.true) c.furthest.ensures)
+    (λ c. rw (ne_eqb _ _ c.before.if-v-eq0.false, eq-eqb _ _ c.if-v-l.true)) (λ c. rw (ne_eqb _ _ c.before.if-v-eq0.false, ne_eqb _ _ c.if-v-l.false)))

@@ -12,5 +12,5 @@ scale_spec =
     tie.close
     (tie.spec
     (λ c. search rules) (λ c. search rules) (λ c. search rules)
-    (λ c. omega (arith, div-le_self (c.before.args.e - half) (c.before.args.w - half))) (λ c. rw c.if1.true) (λ c. search rules) (λ c. search rules)
-    (λ c. omega (arith, c.before.requires.3 c.if1.false)) (λ c. omega (arith, c.before.requires.3 c.if1.false)) (λ c. rw c.if1.false))
+    (λ c. omega (arith, div-le_self (c.before.args.e - half) (c.before.args.w - half))) (λ c. rw c.if-up.true) (λ c. search rules) (λ c. search rules)
+    (λ c. omega (arith, c.before.requires.3 c.if-up.false)) (λ c. omega (arith, c.before.requires.3 c.if-up.false)) (λ c. rw c.if-up.false))

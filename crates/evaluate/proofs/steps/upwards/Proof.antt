@@ -5,4 +5,4 @@ use Rattle.evaluate.proofs.steps.upwards.Tie as tie
 pub upwards_spec : {M : Type 1} → statement M
 upwards_spec = tie.close
     (tie.spec
-    (λ c. rw c.if1.true) (λ c. rw c.if1.false))
+    (λ c. rw c.if-upper.true) (λ c. rw c.if-upper.false))

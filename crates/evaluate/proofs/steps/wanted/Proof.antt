@@ -9,6 +9,6 @@ pub wanted_spec : {M : Type 1} → statement M
 wanted_spec =
     tie.close
     (tie.spec
-    (λ c κs. search rules) (λ c. rw (eq-eqb _ _ (sym c.before.furthest.ensures ∙ c.if1.true))) (λ c. search rules) (λ c. search rules)
-    (λ c. rw (ne_eqb _ _ (λ e. c.before.if1.false (c.before.before.furthest.ensures ∙ e)), eq-eqb _ _ c.if2.true))
-    (λ c. rw (ne_eqb _ _ (λ e. c.before.if1.false (c.before.before.furthest.ensures ∙ e)), ne_eqb _ _ c.if2.false)))
+    (λ c κs. search rules) (λ c. rw (eq-eqb _ _ (sym c.before.furthest.ensures ∙ c.if-furthest-w.true))) (λ c. search rules) (λ c. search rules)
+    (λ c. rw (ne_eqb _ _ (λ e. c.before.if-furthest-w.false (c.before.before.furthest.ensures ∙ e)), eq-eqb _ _ c.if-l-eq0.true))
+    (λ c. rw (ne_eqb _ _ (λ e. c.before.if-furthest-w.false (c.before.before.furthest.ensures ∙ e)), ne_eqb _ _ c.if-l-eq0.false)))
