@@ -110,7 +110,7 @@ abbrev pub Keeps : Kind → Type 0
 Keeps k = (m : ℕ) (v w : ℤ) → nat_abs v ≤ m → nat_abs w ≤ m → nat_abs (joined k v w) ≤ m
 
 kept_one : (b : Bool) (m : ℕ) (v w : ℤ) → nat_abs v ≤ m → nat_abs w ≤ m → nat_abs (cond b v w) ≤ m
-kept_one b m v w p q = elim b [ true ↦ p | false ↦ q ]
+kept_one b m v w p q = elim b as (λ b. nat_abs (cond b v w) ≤ m) [ true ↦ p | false ↦ q ]
 
 pub maximum_keeps : Keeps maximum
 maximum_keeps m v w p q = kept_one (le_z v w) m w v q p

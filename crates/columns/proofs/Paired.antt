@@ -30,7 +30,7 @@ some_same (suc k) p q e = ap₂ (λ a b. a || b) (some_same k p q e) (e k)
 -- two by two, in another order
 exchange : (a b x y : Bool) → ((a || b) || (x || y)) ≡ ((a || x) || (b || y))
 exchange true b x y = refl
-exchange false b x y = elim b [ true ↦ elim x [ true ↦ refl | false ↦ refl ] | false ↦ refl ]
+exchange false b x y = elim b as (λ b. false || b || (x || y) ≡ false || x || (b || y)) [ true ↦ elim x as (λ x. false || true || (x || y) ≡ false || x || (true || y)) [ true ↦ refl | false ↦ refl ] | false ↦ refl ]
 
 some_or : (k : ℕ) (p q : ℕ → Bool) → some_below k (λ i. p i || q i) ≡ (some_below k p || some_below k q)
 unfolding some_below

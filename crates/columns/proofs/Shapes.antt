@@ -21,7 +21,7 @@ use Rattle.columns.proofs.Clauses.{none_holds}
 -- ---- the test in the three parts that the code decides
 
 regroup : (a k s b c l x : Bool) → (a || k || s || b || c || l || x) ≡ (a || (k || s || b || c || l) || x)
-regroup a k s b c l x = elim a [ true ↦ refl | false ↦ refl ]
+regroup a k s b c l x = elim a as (λ a. a || k || s || b || c || l || x ≡ a || (k || s || b || c || l) || x) [ true ↦ refl | false ↦ refl ]
 
 abbrev pub limits_passed : Limits → ℕ → Columns → Bool
 limits_passed lim n c = above_limits lim n (length c.heads) (length c.weights)

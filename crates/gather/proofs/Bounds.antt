@@ -23,10 +23,10 @@ use Rattle.entry_words.specs.Inner.Entries.{positive, freed, Joinable}
 -- ---- of one weight
 
 turned_by_size : (w l : ℤ) → nat_abs (turned_by w l).weight ≡ nat_abs w
-turned_by_size w l = elim l [ pos a ↦ refl | negsuc a ↦ neg_size w ]
+turned_by_size w l = elim l as (λ l. nat_abs (turned_by w l).weight ≡ nat_abs w) [ pos a ↦ refl | negsuc a ↦ neg_size w ]
 
 pub turn_size : (k : Kind) (e : Entry) → nat_abs (positive k e).weight ≡ nat_abs e.weight
-turn_size k e = let t = turned_by_size e.weight e.literal in elim k [ sum ↦ t | product ↦ refl | count ↦ t | maximum ↦ refl | minimum ↦ refl ]
+turn_size k e = let t = turned_by_size e.weight e.literal in elim k as (λ k. nat_abs (positive k e).weight ≡ nat_abs e.weight) [ sum ↦ t | product ↦ refl | count ↦ t | maximum ↦ refl | minimum ↦ refl ]
 
 freed_by_size : (w l : ℤ) → nat_abs (freed_by w l) ≤ nat_abs w
 freed_by_size w l = elim l [ pos a ↦ omega arith | negsuc a ↦ omega arith ]

@@ -32,10 +32,10 @@ use Rattle.gather.proofs.Putting.{either}
 -- ---- the table of literals
 
 or_true : (b : Bool) → true ≡ (b || true)
-or_true b = elim b [ true ↦ refl | false ↦ refl ]
+or_true b = elim b as (λ b. true ≡ b || true) [ true ↦ refl | false ↦ refl ]
 
 or_false : (b : Bool) → b ≡ (b || false)
-or_false b = elim b [ true ↦ refl | false ↦ refl ]
+or_false b = elim b as (λ b. b ≡ b || false) [ true ↦ refl | false ↦ refl ]
 
 pub seen_next : (seen : List Bool) (es : List Entry) (x l : ℕ) → Seen seen es → 2 ≤ l → l ≤ 8193 → Seen (set seen l true) (es ++ (entry_of x l ∷ []))
 seen_next seen es x l s low high = record { size = length-set seen l true ∙ s.size; each = at }

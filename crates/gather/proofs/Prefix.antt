@@ -28,7 +28,7 @@ turned_all_next [] e = refl
 turned_all_next (x ∷ es) e = ap (λ r. turned_by x.weight x.literal ∷ r) (turned_all_next es e)
 
 pub turned_next : (k : Kind) (es : List Entry) (e : Entry) → turned k (es ++ (e ∷ [])) ≡ turned k es ++ (positive k e ∷ [])
-turned_next k es e = elim k [ sum ↦ turned_all_next es e | product ↦ refl | count ↦ turned_all_next es e | maximum ↦ refl | minimum ↦ refl ]
+turned_next k es e = elim k as (λ k. turned k (es ++ e ∷ []) ≡ turned k es ++ positive k e ∷ []) [ sum ↦ turned_all_next es e | product ↦ refl | count ↦ turned_all_next es e | maximum ↦ refl | minimum ↦ refl ]
 
 freed_all_next : (es : List Entry) (e : Entry) → freed_all (es ++ (e ∷ [])) ≡ freed_all es +ℤ freed_by e.weight e.literal
 unfolding freed_all
@@ -37,7 +37,7 @@ freed_all_next (x ∷ es) e = ap (λ r. freed_by x.weight x.literal +ℤ r) (fre
     ∙ sym (+ℤ_assoc (freed_by x.weight x.literal) (freed_all es) (freed_by e.weight e.literal))
 
 pub constant_next : (k : Kind) (es : List Entry) (e : Entry) → constant k (es ++ (e ∷ [])) ≡ constant k es +ℤ freed k e
-constant_next k es e = elim k [ sum ↦ freed_all_next es e | product ↦ refl | count ↦ freed_all_next es e | maximum ↦ refl | minimum ↦ refl ]
+constant_next k es e = elim k as (λ k. constant k (es ++ e ∷ []) ≡ constant k es +ℤ freed k e) [ sum ↦ freed_all_next es e | product ↦ refl | count ↦ freed_all_next es e | maximum ↦ refl | minimum ↦ refl ]
 
 -- ---- members
 

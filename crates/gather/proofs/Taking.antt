@@ -141,11 +141,11 @@ module _ {part : List ℕ} {kind : ℕ} {ws ls : List ℤ} (m : Mergeable part k
 
 none_collected : (k : Kind) → [] ≡ collect k [] (turned k (members k []))
 unfolding collect turned_all
-none_collected k = elim k [ sum ↦ refl | product ↦ refl | count ↦ refl | maximum ↦ refl | minimum ↦ refl ]
+none_collected k = elim k as (λ k. ◌≡◌ {A = List Entry} [] (collect k [] (turned k (members k [])))) [ sum ↦ refl | product ↦ refl | count ↦ refl | maximum ↦ refl | minimum ↦ refl ]
 
 none_freed : (k : Kind) → pos 0 ≡ constant k (members k [])
 unfolding freed_all
-none_freed k = elim k [ sum ↦ refl | product ↦ refl | count ↦ refl | maximum ↦ refl | minimum ↦ refl ]
+none_freed k = elim k as (λ k. pos 0 ≡ constant k (members k [])) [ sum ↦ refl | product ↦ refl | count ↦ refl | maximum ↦ refl | minimum ↦ refl ]
 
 word_high : (l : ℤ) → atom l ≤ 4096 → literal_word l < 8194
 word_high l = elim l [ pos a ↦ λ h. omega arith | negsuc a ↦ λ h. omega arith ]

@@ -42,7 +42,7 @@ module _ {A : Type 0} (k : Kind) where
 -- ---- the aggregate as a fold
 
 pub aggregate_next : (k : Kind) (w : ℤ) (ws : List ℤ) → aggregate k (w ∷ ws) ≡ combine k (at w) (aggregate k ws)
-aggregate_next k w ws = elim k [ sum ↦ refl | product ↦ refl | count ↦ refl | maximum ↦ refl | minimum ↦ refl ]
+aggregate_next k w ws = elim k as (λ k. aggregate k (w ∷ ws) ≡ combine k (at w) (aggregate k ws)) [ sum ↦ refl | product ↦ refl | count ↦ refl | maximum ↦ refl | minimum ↦ refl ]
 
 -- what an entry contributes under an assignment
 abbrev pub contribution : Kind → Assignment → Entry → Extended
@@ -64,7 +64,7 @@ module _ (k : Kind) (σ : Assignment) where
 -- ---- the constant
 
 pub raised_zero : (v : Extended) → raised (pos 0) v ≡ v
-raised_zero v = elim v [ below ↦ refl | at z ↦ ap at (+ℤ_idl z) | above ↦ refl ]
+raised_zero v = elim v as (λ v. raised (pos 0) v ≡ v) [ below ↦ refl | at z ↦ ap at (+ℤ_idl z) | above ↦ refl ]
 
 raised_combine : (c : ℤ) (v : Extended) → raised c v ≡ combine sum (at c) v
 raised_combine c v = elim v [ below ↦ refl | at z ↦ refl | above ↦ refl ]

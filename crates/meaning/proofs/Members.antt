@@ -36,7 +36,7 @@ module _ {A : Type 0} (P : A → Type 0) where
 
   -- where a test drops or keeps the head
   each_cond : (b : Bool) (x : A) (xs : List A) → P x → Each P xs → Each P (cond b xs (x ∷ xs))
-  each_cond b x xs p ps = elim b [ true ↦ ps | false ↦ (p, ps) ]
+  each_cond b x xs p ps = elim b as (λ b. Each P (cond b xs (x ∷ xs))) [ true ↦ ps | false ↦ (p, ps) ]
 
 -- ---- steps of the merge that drop entries, and the one that joins two
 
@@ -55,7 +55,7 @@ module _ (P : Entry → Type 0) where
   nonzero_each (e ∷ es) h = each_cond P (same e.weight (pos 0)) e (nonzero es) h.0 (nonzero_each es h.1)
 
   kept_each : (k : Kind) (es : List Entry) → Each P es → Each P (kept k es)
-  kept_each k es h = elim k [ sum ↦ nonzero_each es h | product ↦ h | count ↦ nonzero_each es h | maximum ↦ h | minimum ↦ h ]
+  kept_each k es h = elim k as (λ k. Each P (kept k es)) [ sum ↦ nonzero_each es h | product ↦ h | count ↦ nonzero_each es h | maximum ↦ h | minimum ↦ h ]
 
   module _ (k : Kind) (joins : (x e : Entry) → P x → P e → P (join k x e)) where
     pub put_each : (xs : List Entry) (e : Entry) → Each P xs → P e → Each P (put k xs e)
@@ -78,13 +78,13 @@ module _ (P : ℤ → Type 0) where
 
   -- what the literal of every written entry has, the literal of every member has
   pub members_each : (k : Kind) (es : List Entry) → Each (λ e. P e.literal) es → Each (λ e. P e.literal) (members k es)
-  members_each k es h = elim k [ sum ↦ h | product ↦ h | count ↦ once_each (λ e. P e.literal) (ones es) (ones_each es h) | maximum ↦ h | minimum ↦ h ]
+  members_each k es h = elim k as (λ k. Each {A = Entry} (λ e. P e.literal) (members k es)) [ sum ↦ h | product ↦ h | count ↦ once_each (λ e. P e.literal) (ones es) (ones_each es h) | maximum ↦ h | minimum ↦ h ]
 
 -- ---- the merge
 
 module _ (P : ℕ → Type 0) where
   turned_by_has : (w l : ℤ) → P (atom l) → P (entry_atom (turned_by w l))
-  turned_by_has w l = elim l [ pos a ↦ λ p. p | negsuc a ↦ λ p. p ]
+  turned_by_has w l = elim l as (λ l. P (entry_atom (turned_by w l))) [ pos a ↦ λ p. p | negsuc a ↦ λ p. p ]
 
   turned_all_each : (es : List Entry) → Each (λ e. P (entry_atom e)) es → Each (λ e. P (entry_atom e)) (turned_all es)
   unfolding turned_all

@@ -54,7 +54,7 @@ merge_weights maximum es h = any (merge maximum es).entries
 merge_weights minimum es h = any (merge minimum es).entries
 
 unmixed_constant : (k : Kind) (es : List Entry) → T (not (mixes k)) → constant k es ≡ pos 0
-unmixed_constant k es = elim k [ sum ↦ absurd | product ↦ λ n. refl | count ↦ absurd | maximum ↦ λ n. refl | minimum ↦ λ n. refl ]
+unmixed_constant k es = elim k as (λ k. T (not (mixes k)) → constant k es ≡ pos 0) [ sum ↦ absurd | product ↦ λ n. refl | count ↦ absurd | maximum ↦ λ n. refl | minimum ↦ λ n. refl ]
 
 -- ---- the whole
 

@@ -42,7 +42,7 @@ nonzero_distinct (e ∷ es) d = elim (same e.weight (pos 0)) as (λ b. DistinctA
 -- ---- after turning all literals are positive
 
 turned_by_positive : (w l : ℤ) → (turned_by w l).literal ≡ pos (entry_atom (turned_by w l))
-turned_by_positive w l = elim l [ pos a ↦ refl | negsuc a ↦ refl ]
+turned_by_positive w l = elim l as (λ l. (turned_by w l).literal ≡ pos (entry_atom (turned_by w l))) [ pos a ↦ refl | negsuc a ↦ refl ]
 
 pub turned_all_positive : (es : List Entry) → Each (λ e. e.literal ≡ pos (entry_atom e)) (turned_all es)
 unfolding turned_all

@@ -12,7 +12,7 @@ use Rattle.meaning.proofs.Members.{same→eq}
 
 -- where a test puts a weight in front or not
 total_cond : (b : Bool) (w : ℤ) (ws : List ℤ) → total (cond b (w ∷ ws) ws) ≡ cond b w (pos 0) +ℤ total ws
-total_cond b w ws = elim b [ true ↦ refl | false ↦ sym (+ℤ_idl (total ws)) ]
+total_cond b w ws = elim b as (λ b. total (cond {A = List ℤ} b (w ∷ ws) ws) ≡ cond b w (pos 0) +ℤ total ws) [ true ↦ refl | false ↦ sym (+ℤ_idl (total ws)) ]
 
 -- what one entry gives, turned
 turned_by_value : (σ : Assignment) (w l : ℤ)
@@ -40,7 +40,7 @@ nonzero_total σ [] = refl
 nonzero_total σ (e ∷ es) = go (same e.weight (pos 0)) (same→eq e.weight (pos 0)) (nonzero_total σ es)
   where
     drop : (b : Bool) (w x : ℤ) → w ≡ pos 0 → x ≡ cond b w (pos 0) +ℤ x
-    drop b w x h = elim b [ true ↦ omega (ints, sum_parts w x) | false ↦ sym (+ℤ_idl x) ]
+    drop b w x h = elim b as (λ b. x ≡ cond b w (pos 0) +ℤ x) [ true ↦ omega (ints, sum_parts w x) | false ↦ sym (+ℤ_idl x) ]
 
     go : (b : Bool) → (T b → e.weight ≡ pos 0) → total (chosen σ (nonzero es)) ≡ total (chosen σ es)
         → total (chosen σ (cond b (nonzero es) (e ∷ nonzero es))) ≡ total (chosen σ (e ∷ es))

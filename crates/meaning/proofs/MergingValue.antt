@@ -15,10 +15,10 @@ use Rattle.meaning.proofs.Gather.{gather_last, gather_chosen}
 use Rattle.meaning.proofs.Members.{join, same→eq}
 
 at_cond : (b : Bool) (v w : ℤ) → at (cond b v w) ≡ cond b (at v) (at w)
-at_cond b v w = elim b [ true ↦ refl | false ↦ refl ]
+at_cond b v w = elim b as (λ b. at (cond b v w) ≡ cond b (at v) (at w)) [ true ↦ refl | false ↦ refl ]
 
 at_joined : (k : Kind) (v w : ℤ) → at (joined k v w) ≡ combine k (at v) (at w)
-at_joined k v w = elim k [ sum ↦ refl | product ↦ refl | count ↦ refl | maximum ↦ at_cond (le_z v w) w v | minimum ↦ at_cond (le_z v w) v w ]
+at_joined k v w = elim k as (λ k. at (joined k v w) ≡ combine k (at v) (at w)) [ sum ↦ refl | product ↦ refl | count ↦ refl | maximum ↦ at_cond (le_z v w) w v | minimum ↦ at_cond (le_z v w) v w ]
 
 -- over any choice of literals
 module _ (k : Kind) (t : ℤ → Bool) where

@@ -19,15 +19,15 @@ pub T_false : {b : Bool} → b ≡ false → T b → ⊥
 T_false e t = subst T e t
 
 pub is_true : {b : Bool} → T b → b ≡ true
-is_true {b} = elim b [ true ↦ λ t. refl | false ↦ absurd ]
+is_true {b} = elim b as (λ b. T b → b ≡ true) [ true ↦ λ t. refl | false ↦ absurd ]
 
 pub is_false : {b : Bool} → (T b → ⊥) → b ≡ false
-is_false {b} = elim b [ true ↦ λ f. absurd (f tt) | false ↦ λ f. refl ]
+is_false {b} = elim b as (λ b. b ≡ false) [ true ↦ λ f. absurd (f tt) | false ↦ λ f. refl ]
 
 -- ---- the order on values
 
 pub le_e_refl : (v : Extended) → T (le_e v v)
-le_e_refl v = elim v [ below ↦ tt | at a ↦ le_z_refl a | above ↦ tt ]
+le_e_refl v = elim v as (λ v. T (le_e v v)) [ below ↦ tt | at a ↦ le_z_refl a | above ↦ tt ]
 
 pub le_e_trans : (u v w : Extended) → T (le_e u v) → T (le_e v w) → T (le_e u w)
 le_e_trans below v w h k = tt
@@ -59,7 +59,7 @@ module _ (P : Extended → Type 0) (v w : Extended) where
   pick false y n = n tt
 
 pub further_refl : (d : Direction) (v : Extended) → T (further d v v)
-further_refl d v = elim d [ down ↦ le_e_refl v | up ↦ le_e_refl v ]
+further_refl d v = elim d as (λ d. T (further d v v)) [ down ↦ le_e_refl v | up ↦ le_e_refl v ]
 
 pub further_trans : (d : Direction) (u v w : Extended) → T (further d u v) → T (further d v w) → T (further d u w)
 further_trans up u v w h k = le_e_trans u v w h k
@@ -125,26 +125,26 @@ OfAt P above = Unit {0}
 
 module _ (f : ℤ → ℤ → ℤ) where
   both_comm : ((a b : ℤ) → f a b ≡ f b a) → (v w : Extended) → both f v w ≡ both f w v
-  both_comm c below w = elim w [ below ↦ refl | at b ↦ refl | above ↦ refl ]
-  both_comm c (at a) w = elim w [ below ↦ refl | at b ↦ ap at (c a b) | above ↦ refl ]
+  both_comm c below w = elim w as (λ w. both f below w ≡ both f w below) [ below ↦ refl | at b ↦ refl | above ↦ refl ]
+  both_comm c (at a) w = elim w as (λ w. both f (at a) w ≡ both f w (at a)) [ below ↦ refl | at b ↦ ap at (c a b) | above ↦ refl ]
   both_comm c above w = elim w [ below ↦ refl | at b ↦ refl | above ↦ refl ]
 
   both_assoc : ((a b c : ℤ) → f (f a b) c ≡ f a (f b c)) → (u v w : Extended) → both f (both f u v) w ≡ both f u (both f v w)
   both_assoc s below v w = refl
   both_assoc s (at a) below w = refl
-  both_assoc s (at a) (at b) w = elim w [ below ↦ refl | at c ↦ ap at (s a b c) | above ↦ refl ]
-  both_assoc s (at a) above w = elim w [ below ↦ refl | at c ↦ refl | above ↦ refl ]
+  both_assoc s (at a) (at b) w = elim w as (λ w. both f (both f (at a) (at b)) w ≡ both f (at a) (both f (at b) w)) [ below ↦ refl | at c ↦ ap at (s a b c) | above ↦ refl ]
+  both_assoc s (at a) above w = elim w as (λ w. both f (both f (at a) above) w ≡ both f (at a) (both f above w)) [ below ↦ refl | at c ↦ refl | above ↦ refl ]
   both_assoc s above below w = refl
   both_assoc s above (at b) w = elim w [ below ↦ refl | at c ↦ refl | above ↦ refl ]
   both_assoc s above above w = elim w [ below ↦ refl | at c ↦ refl | above ↦ refl ]
 
   both_unit : (z : ℤ) → ((a : ℤ) → f a z ≡ a) → (v : Extended) → both f v (at z) ≡ v
-  both_unit z u v = elim v [ below ↦ refl | at a ↦ ap at (u a) | above ↦ refl ]
+  both_unit z u v = elim v as (λ v. both f v (at z) ≡ v) [ below ↦ refl | at a ↦ ap at (u a) | above ↦ refl ]
 
   both_of : (P : ℤ → Type 0) → ((a b : ℤ) → P a → P b → P (f a b)) → (v w : Extended) → OfAt P v → OfAt P w → OfAt P (both f v w)
   both_of P keep below w p q = tt
   both_of P keep (at a) w p q = elim w as (λ w. OfAt P w → OfAt P (both f (at a) w)) [ below ↦ λ q. tt | at b ↦ keep a b p | above ↦ λ q. tt ] q
-  both_of P keep above w p q = elim w [ below ↦ tt | at b ↦ tt | above ↦ tt ]
+  both_of P keep above w p q = elim w as (λ w. OfAt P (both f above w)) [ below ↦ tt | at b ↦ tt | above ↦ tt ]
 
   module _ (P : ℤ → Type 0) (comm : (a b : ℤ) → f a b ≡ f b a)
       (mono : (a b c : ℤ) → P a → P c → T (le_z a b) → T (le_z (f a c) (f b c))) where
@@ -154,7 +154,7 @@ module _ (f : ℤ → ℤ → ℤ) where
     both_left (at a) (at b) below p q h = tt
     both_left (at a) (at b) (at c) p q h = mono a b c p q h
     both_left (at a) (at b) above p q h = tt
-    both_left (at a) above w p q h = elim w [ below ↦ tt | at c ↦ tt | above ↦ tt ]
+    both_left (at a) above w p q h = elim w as (λ w. T (le_e (both f (at a) w) (both f above w))) [ below ↦ tt | at c ↦ tt | above ↦ tt ]
     both_left above below w p q h = absurd h
     both_left above (at b) w p q h = absurd h
     both_left above above w p q h = le_e_refl (both f above w)
@@ -187,7 +187,7 @@ unfolding one
 combine_empty sum v = both_unit ◌+ℤ◌ (pos 0) +ℤ_idr v
 combine_empty product v = both_unit ◌*ℤ◌ (pos 1) *ℤ-one v
 combine_empty count v = both_unit ◌+ℤ◌ (pos 0) +ℤ_idr v
-combine_empty maximum v = elim v [ below ↦ refl | at a ↦ refl | above ↦ refl ]
+combine_empty maximum v = elim v as (λ v. combine maximum v (empty maximum) ≡ v) [ below ↦ refl | at a ↦ refl | above ↦ refl ]
 combine_empty minimum v = elim v [ below ↦ refl | at a ↦ refl | above ↦ refl ]
 
 pub empty_combine : (k : Kind) (v : Extended) → combine k (empty k) v ≡ v
@@ -213,10 +213,10 @@ given_proper maximum e b h = tt
 given_proper minimum e b h = tt
 
 pub starting_proper : (k : Kind) (c : ℤ) → Proper k (starting k c)
-starting_proper k c = elim k [ sum ↦ tt | product ↦ tt | count ↦ tt | maximum ↦ tt | minimum ↦ tt ]
+starting_proper k c = elim k as (λ k. Proper k (starting k c)) [ sum ↦ tt | product ↦ tt | count ↦ tt | maximum ↦ tt | minimum ↦ tt ]
 
 always : (v : Extended) → OfAt (λ z. Unit {0}) v
-always v = elim v [ below ↦ tt | at a ↦ tt | above ↦ tt ]
+always v = elim v as (λ v. OfAt (λ z. Unit {0}) v) [ below ↦ tt | at a ↦ tt | above ↦ tt ]
 
 plus_mono : (v v' w w' : Extended) → T (le_e v v') → T (le_e w w') → T (le_e (both ◌+ℤ◌ v w) (both ◌+ℤ◌ v' w'))
 plus_mono v v' w w' h k = both_mono ◌+ℤ◌ (λ z. Unit {0}) +ℤ_comm (λ a b c p q h. sum_mono a b c c h (le_z_refl c)) v v' w w' (always v) (always v') (always w) h k

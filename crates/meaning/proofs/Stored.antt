@@ -41,12 +41,12 @@ count_stored = (refl, refl)
 -- ---- the constant and the bound
 
 comparison_raised : (s : Side) (b c : ℤ) (v : Extended) → comparison s b (raised c v) ≡ comparison s (b -ℤ c) v
-comparison_raised s b c below = elim s [ lower ↦ refl | upper ↦ refl ]
+comparison_raised s b c below = elim s as (λ s. comparison s b (raised c below) ≡ comparison s (b -ℤ c) below) [ lower ↦ refl | upper ↦ refl ]
 comparison_raised s b c (at z) =
     let p = sum_parts c z in
     let q = sum_parts b (neg_ℤ c) in
     let o = neg_parts c in
-    elim s [
+    elim s as (λ s. comparison s b (raised c (at z)) ≡ comparison s (b -ℤ c) (at z)) [
       | lower ↦ same_test (le_z b (c +ℤ z)) (le_z (b -ℤ c) z) (λ h. omega ints) (λ h. omega ints)
       | upper ↦ same_test (le_z (c +ℤ z) b) (le_z z (b -ℤ c)) (λ h. omega ints) (λ h. omega ints)
     ]
@@ -55,10 +55,10 @@ comparison_raised s b c above = elim s [ lower ↦ refl | upper ↦ refl ]
 -- ---- when it is satisfied
 
 members_merged : (k : Kind) (es : List Entry) → members (merged_kind k) es ≡ es
-members_merged k es = elim k [ sum ↦ refl | product ↦ refl | count ↦ refl | maximum ↦ refl | minimum ↦ refl ]
+members_merged k es = elim k as (λ k. members (merged_kind k) es ≡ es) [ sum ↦ refl | product ↦ refl | count ↦ refl | maximum ↦ refl | minimum ↦ refl ]
 
 aggregate_merged : (k : Kind) (ws : List ℤ) → aggregate (merged_kind k) ws ≡ aggregate k ws
-aggregate_merged k ws = elim k [ sum ↦ refl | product ↦ refl | count ↦ refl | maximum ↦ refl | minimum ↦ refl ]
+aggregate_merged k ws = elim k as (λ k. aggregate (merged_kind k) ws ≡ aggregate k ws) [ sum ↦ refl | product ↦ refl | count ↦ refl | maximum ↦ refl | minimum ↦ refl ]
 
 value_merged : (r : Rule) (σ : Assignment) → value (as_sentence r) σ ≡ aggregate (merged_kind r.kind) (chosen σ r.set.entries)
 unfolding value
@@ -93,7 +93,7 @@ abbrev lowered : Rule → Rule
 lowered r = rule_with (as_sentence r) (bare r)
 
 pub weighable_merged : (k : Kind) (w : ℤ) → T (weighable k w) → T (weighable (merged_kind k) w)
-weighable_merged k w = elim k [ sum ↦ λ h. h | product ↦ λ h. h | count ↦ λ h. h | maximum ↦ λ h. h | minimum ↦ λ h. h ]
+weighable_merged k w = elim k as (λ k. T (weighable (merged_kind k) w)) [ sum ↦ λ h. h | product ↦ λ h. h | count ↦ λ h. h | maximum ↦ λ h. h | minimum ↦ λ h. h ]
 
 bare_represents : (r : Rule) → IsMerged r → Represents (as_sentence r) (bare r)
 unfolding merged_value

@@ -21,7 +21,7 @@ use Rattle.theory_check.proofs.Rules.{rules_each}
 -- ---- a whole rule is merged
 
 unmixed_zero : (k : Kind) (x : ℕ) → T (not (mixes k)) → constant_of k x ≡ pos 0
-unmixed_zero k x = elim k [ sum ↦ absurd | product ↦ λ n. refl | count ↦ absurd | maximum ↦ λ n. refl | minimum ↦ λ n. refl ]
+unmixed_zero k x = elim k as (λ k. T (not (mixes k)) → constant_of k x ≡ pos 0) [ sum ↦ absurd | product ↦ λ n. refl | count ↦ absurd | maximum ↦ λ n. refl | minimum ↦ λ n. refl ]
 
 whole_weight : (k : Kind) (written : ℕ) (e : Entry) → WeightWhole k written e
     → (T (mixes k) → (e.literal ≡ pos (entry_atom e)) × (¬ (e.weight ≡ pos 0))) × T (weighable k e.weight)

@@ -14,15 +14,15 @@ use borrow.Author.Rules.{rules}
 use Rattle.c_calls.proofs.give.Statement.{statement}
 use Rattle.c_calls.proofs.give.Tie as tie
 
-usable : (c : tie.Else-not-is_whole) → let s = c.before.before.before.before.before in Usable s.args.lim s.args.area.now (counters_with s.args.length s.args.level)
-usable c = record { fitting = c.before.before.before.before.before.requires; whole = granted c.before.is_whole.ensures c.if-not-is_whole.false }
+usable : (c : tie.Else-not-is_whole) → let s = c.before.before.before.before in Usable s.args.lim s.args.area.now (counters_with s.args.length s.args.level)
+usable c = record { fitting = c.before.before.before.before.requires; whole = granted c.before.is_whole.ensures c.if-not-is_whole.false }
 
-code : (c : tie.After-give_refusal-code) → let s = c.before.before.before.before.before.before.before in
+code : (c : tie.After-give_refusal-code) → let s = c.before.before.before.before.before in
     c.give_refusal-code.result ≡ refusal_code s.args.lim s.args.area.now (give s.args.literal)
 code c = let s = c.before.before.before.before.before.before.before in rw (to_z-of_z w64 s.args.literal s.ranges.literal) at (c.give_refusal-code.ensures
     s.args.lim _ (usable c.before.before))
 
-asked : (c : tie.After-early-refused) → let s = c.before.before.before.before.before.before.before.before in
+asked : (c : tie.After-early-refused) → let s = c.before.before.before.before.before.before in
     Asked s.args.lim s.args.area.now (counters_with s.args.length s.args.level) (give s.args.literal) next_counters s.args.next.now
     c.before.give_refusal-code.result c.early-refused.result
 asked c = record { whole = (usable c.before.before.before).whole; code = code c.before; number = c.early-refused.ensures }

@@ -12,14 +12,14 @@ use borrow.Author.Rules.{rules}
 use Rattle.c_calls.proofs.open.Statement.{statement}
 use Rattle.c_calls.proofs.open.Tie as tie
 
-usable : (c : tie.Else-not-is_whole) → let s = c.before.before.before.before.before in Usable s.args.lim s.args.area.now (counters_with s.args.length s.args.level)
-usable c = record { fitting = c.before.before.before.before.before.requires; whole = granted c.before.is_whole.ensures c.if-not-is_whole.false }
+usable : (c : tie.Else-not-is_whole) → let s = c.before.before.before.before in Usable s.args.lim s.args.area.now (counters_with s.args.length s.args.level)
+usable c = record { fitting = c.before.before.before.before.requires; whole = granted c.before.is_whole.ensures c.if-not-is_whole.false }
 
-code : (c : tie.After-open_refusal-code) → let s = c.before.before.before.before.before.before in
+code : (c : tie.After-open_refusal-code) → let s = c.before.before.before.before.before in
     c.open_refusal-code.result ≡ refusal_code s.args.lim s.args.area.now open_level
-code c = let s = c.before.before.before.before.before.before in c.open_refusal-code.ensures s.args.area.now (usable c.before).whole.level_is
+code c = let s = c.before.before.before.before.before in c.open_refusal-code.ensures s.args.area.now (usable c.before).whole.level_is
 
-asked : (c : tie.After-early-refused) → let s = c.before.before.before.before.before.before.before in
+asked : (c : tie.After-early-refused) → let s = c.before.before.before.before.before.before in
     Asked s.args.lim s.args.area.now (counters_with s.args.length s.args.level) open_level next_counters s.args.next.now
     c.before.open_refusal-code.result c.early-refused.result
 asked c = record { whole = (usable c.before.before).whole; code = code c.before; number = c.early-refused.ensures }

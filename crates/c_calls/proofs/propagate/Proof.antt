@@ -11,10 +11,10 @@ use borrow.Author.Rules.{rules}
 use Rattle.c_calls.proofs.propagate.Statement.{statement}
 use Rattle.c_calls.proofs.propagate.Tie as tie
 
-usable : (c : tie.Else-not-is_whole) → let s = c.before.before.before.before.before in Usable s.args.lim s.args.area.now (counters_with s.args.length s.args.level)
-usable c = record { fitting = c.before.before.before.before.before.requires; whole = granted c.before.is_whole.ensures c.if-not-is_whole.false }
+usable : (c : tie.Else-not-is_whole) → let s = c.before.before.before.before in Usable s.args.lim s.args.area.now (counters_with s.args.length s.args.level)
+usable c = record { fitting = c.before.before.before.before.requires; whole = granted c.before.is_whole.ensures c.if-not-is_whole.false }
 
-asked : (c : tie.After-early-refused) → let s = c.before.before.before.before.before.before in
+asked : (c : tie.After-early-refused) → let s = c.before.before.before.before.before in
     Asked s.args.lim s.args.area.now (counters_with s.args.length s.args.level) propagate next_counted s.args.next.now 0 c.early-refused.result
 asked c = record { whole = (usable c.before).whole; code = refl; number = c.early-refused.ensures }
 

@@ -16,19 +16,19 @@ use borrow.Author.Rules.{rules}
 use Rattle.c_calls.proofs.search.Statement.{statement}
 use Rattle.c_calls.proofs.search.Tie as tie
 
-usable : (c : tie.Else-not-is_whole) → let s = c.before.before.before.before.before in Usable s.args.lim s.args.area.now (counters_with s.args.length s.args.level)
-usable c = record { fitting = c.before.before.before.before.before.requires; whole = granted c.before.is_whole.ensures c.if-not-is_whole.false }
+usable : (c : tie.Else-not-is_whole) → let s = c.before.before.before.before in Usable s.args.lim s.args.area.now (counters_with s.args.length s.args.level)
+usable c = record { fitting = c.before.before.before.before.requires; whole = granted c.before.is_whole.ensures c.if-not-is_whole.false }
 
-code : (c : tie.After-search_refusal-code) → let s = c.before.before.before.before.before.before.before in
+code : (c : tie.After-search_refusal-code) → let s = c.before.before.before.before.before in
     c.search_refusal-code.result ≡ refusal_code s.args.lim s.args.area.now (table.search s.args.literals.now)
 code c = let s = c.before.before.before.before.before.before.before in c.search_refusal-code.ensures s.args.lim
 
-asked : (c : tie.After-early-refused) → let s = c.before.before.before.before.before.before.before.before in
+asked : (c : tie.After-early-refused) → let s = c.before.before.before.before.before.before in
     Asked s.args.lim s.args.area.now (counters_with s.args.length s.args.level) (table.search s.args.literals.now) next_searched
     s.args.next.now c.before.search_refusal-code.result c.early-refused.result
 asked c = record { whole = (usable c.before.before.before).whole; code = code c.before; number = c.early-refused.ensures }
 
-known : (c : tie.Else-refused-ne0) → let s = c.before.before.before.before.before.before.before.before.before in AllKnown (atoms_of s.args.area.now) s.args.literals.now
+known : (c : tie.Else-refused-ne0) → let s = c.before.before.before.before.before.before.before in AllKnown (atoms_of s.args.area.now) s.args.literals.now
 known c = let s = c.before.before.before.before.before.before.before.before.before in
     all_known s.args.lim s.args.area.now s.args.literals.now (passed (asked c.before) c.if-refused-ne0.false)
 

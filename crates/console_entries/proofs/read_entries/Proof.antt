@@ -19,7 +19,7 @@ decreases-loop-k line weights₀ literals₀ at most k₀ from₀ weights litera
 
 returns : tie.Need-returns-in-Nothing invariant-loop-k decreases-loop-k
 unfolding entries_of
-returns c = let p = c.before.before.before.before in let s = p.before.before.before.before in
+returns c = let p = c.before.before.before.before in let s = p.before.before.before in
     all_stored p.loop.invariant (ap entries_of (nothing_found s.args.line.now p.loop.from c.before.before.take_entry-next.ensures c.enum_told-1.given.1))
 
 loop_again : tie.Need-loop-k-preserved invariant-loop-k decreases-loop-k

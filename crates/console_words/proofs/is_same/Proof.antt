@@ -21,7 +21,7 @@ is_same_spec = tie.close (tie.spec
     invariant-loop-i decreases-loop-i (λ c. sym (same_lengths c.before.args.word.now c.before.args.text.now (λ e. omega arith)))
     (λ c. (omega arith, omega arith, refl)) (λ c. search rules) (λ c. search rules)
     (λ c. let p = c.before.before.before.before in let s = p.before.before in let w = s.args.word.now in
-    let t = s.args.text.now in let i = p.loop.i in
+    let t = s.args.text.now in let i = p.loop-i.i in
     sym (p.loop.invariant.2 ∙ differ w t i (omega arith) (omega arith) c.if-word-i.true))
     (λ c. search rules) (λ c. search rules)
     (λ c. let p = c.before.before.before.before in let s = p.before.before in let w = s.args.word.now in

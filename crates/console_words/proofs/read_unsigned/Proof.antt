@@ -23,7 +23,7 @@ read_unsigned_spec = tie.close (tie.spec
     (λ c. let s = c.before.before.before.before.before in let w = s.args.word.now in let i = c.before.before.before.loop-i.i in
     let n = c.before.before.before.loop-i.n in
     sym (c.before.before.before.loop-i.invariant.2 ∙ below_digits w i n (omega arith) (omega arith)))
-    (λ c. let p = c.before.before.before.before in let s = p.before.before in let w = s.args.word.now in let i = p.loop.i in
+    (λ c. let p = c.before.before.before.before in let s = p.before.before in let w = s.args.word.now in let i = p.loop-i.i in
     let n = p.loop.n in
     sym (p.loop.invariant.2 ∙ above_digits w i n (omega arith) (omega arith)))
     (λ c. search rules) (λ c. search rules)

@@ -22,7 +22,7 @@ returns c = let p = c.before.before.before.before in
     record {
       begins = omega arith;
       fits = omega arith;
-      words_are = p.loop.invariant.2;
+      words_are = p.loop-i.invariant.2;
       stops = λ _. sym c.before.is_blank.ensures
           ∙ not-true _ c.if-not-is_blank.true;
     }

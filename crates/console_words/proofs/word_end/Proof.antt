@@ -18,7 +18,7 @@ decreases-loop-i line from i₀ i = length line - i
 
 returns : tie.Need-returns-then-is_blank invariant-loop-i decreases-loop-i
 returns c = let p = c.before.before.before.before in let s = p.before.before in let l = s.args.line.now in let f = s.args.from in
-    let i = p.loop.i in
+    let i = p.loop-i.i in
     record {
       begins = omega arith;
       some = omega arith;

@@ -5,7 +5,7 @@ use Rattle.extremes.proofs.step.Tie as tie
 
 pub step_spec : {M : Type 1} → statement M
 step_spec = tie.close (tie.spec
-    (λ c. search rules) (λ c κs. rw c.enum_told-1.given.1 at c.before.before.requires.0) (λ c κs. rw c.before.enum_told-1.given.1 at c.before.before.before.requires.1)
+    (λ c. search rules) (λ c κs. rw c.enum_told-1.given.1 at c.before.requires.0) (λ c κs. rw c.before.enum_told-1.given.1 at c.before.before.before.requires.1)
     (λ c. search rules) (λ c κs. rw c.enum_told-in-Product-1.given.1 at c.before.before.requires.0) (λ c κs. rw c.before.enum_told-in-Product-1.given.1 at c.before.before.before.requires.1)
     (λ c. search rules) (λ c κs. rw c.enum_told-in-Count-1.given.1 at c.before.before.requires.0) (λ c κs. rw c.before.enum_told-in-Count-1.given.1 at c.before.before.before.requires.1)
     (λ c. search rules) (λ c κs. search rules) (λ c κs. search rules) (λ c. search rules) (λ c κs. search rules) (λ c κs. search rules)

@@ -21,11 +21,11 @@ use Rattle.give.proofs.give_whole.Statement.{statement}
 use Rattle.give.proofs.give_whole.Tie as tie
 
 abbrev start : tie.After-atom_of-atom → tie.Start
-start c = c.before.before.before.before.before.before.before
+start c = c.before.before.before.before.before
 
-code : (c : tie.After-give_refusal-code) (lim : Limits) → let s = c.before.before.before in
+code : (c : tie.After-give_refusal-code) (lim : Limits) → let s = c.before.before in
     Usable lim s.args.area.now (counted s.args.counters) → c.give_refusal-code.result ≡ refusal_code lim s.args.area.now (give s.args.literal)
-code c lim u = let s = c.before.before.before in rw (to_z-of_z w64 s.args.literal s.ranges.literal) at (c.give_refusal-code.ensures lim _ u)
+code c lim u = let s = c.before.before in rw (to_z-of_z w64 s.args.literal s.ranges.literal) at (c.give_refusal-code.ensures lim _ u)
 
 told : (c : tie.After-atom_of-atom) → AtomOf (atoms_of (start c).args.area.now) (start c).args.literal c.atom_of-atom.result
 told c = let s = start c in

@@ -10,9 +10,9 @@ use Rattle.whole.specs.Inner.Usable.{Usable}
 use Rattle.give.proofs.give_within.Statement.{statement}
 use Rattle.give.proofs.give_within.Tie as tie
 
-usable : (c : tie.Else-not-is_whole) → let s = c.before.before.before.before in
+usable : (c : tie.Else-not-is_whole) → let s = c.before.before.before in
     Usable s.args.lim s.args.area.now (counted s.args.counters)
-usable c = record { fitting = c.before.before.before.before.requires; whole = granted c.before.is_whole.ensures c.if-not-is_whole.false }
+usable c = record { fitting = c.before.before.before.requires; whole = granted c.before.is_whole.ensures c.if-not-is_whole.false }
 
 pub give_within_spec : {M : Type 1} → statement M
 give_within_spec = tie.close (tie.spec

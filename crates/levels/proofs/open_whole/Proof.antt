@@ -16,7 +16,7 @@ code : (c : tie.After-open_refusal-code) → let s = c.before.before in
 code c = c.open_refusal-code.ensures c.before.before.args.area.now c.before.before.requires.whole.level_is
 
 returns_2 : tie.Need-returns
-returns_2 c = let s = c.before.before.before.before.before.before.before.before.before in
+returns_2 c = let s = c.before.before.before.before.before.before.before.before in
     let low : s.args.counters.level.0 < s.args.lim.levels =
     omega (
       arith,

@@ -21,7 +21,7 @@ below c = let s = c.before.before.before in
     omega (arith, goes_below s.args.lim s.args.area.now s.args.k (sym (code c.before) ∙ c.if-code-ne0.false), s.requires.whole.level_is)
 
 refresh_requires : tie.Need-refresh-requires
-refresh_requires c κs = let s = c.before.before.before.before.before.before.before.before.before.before.before.before.before.before.before.before.before.before.before.before in
+refresh_requires c κs = let s = c.before.before.before.before.before.before.before.before.before.before.before.before.before.before.before.before.before.before in
     let e = c.before.before.before.before.before.before.before.before.before.before.before.before.before.before.atoms_of-n.ensures in
     rw (e, c.before.before.before.before.before.before.before.before.before.before.before.before.sentences_of-sentences.ensures) (
       s.args.lim,
@@ -35,7 +35,7 @@ refresh_requires c κs = let s = c.before.before.before.before.before.before.bef
     )
 
 returns_3 : tie.Need-returns
-returns_3 c = let s = c.before.before.before.before.before.before.before.before.before.before.before.before.before.before.before.before.before.before.before.before.before.before.before in
+returns_3 c = let s = c.before.before.before.before.before.before.before.before.before.before.before.before.before.before.before.before.before.before.before.before.before in
     let e = c.before.before.before.before.before.before.before.before.before.before.before.before.before.before.before.before.before.atoms_of-n.ensures in
     take_back_lowers _ _ _ _ s.args.k s.requires.fitting s.requires.whole
     (omega (

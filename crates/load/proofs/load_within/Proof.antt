@@ -41,7 +41,7 @@ returns_2 c =
     let renewed = c.before.before.refresh in
     record {
       answer_is = told.before.refusal-answer.ensures;
-      refused = λ d. absurd (d told.if1.false);
+      refused = λ d. absurd (d told.if-code-ne0.false);
       accepted = λ _. loaded b.args.lim b.args.area.now stored.new.0 b.args.atoms.0 (cols b) b.requires (ok told) stored.ensures
           renewed.new.0 _ (λ a h. get_or-replicate 4097 a 1 0 (omega arith)) renewed.ensures;
     }

@@ -47,35 +47,35 @@ ended s e h = h ∙ ap (λ (p : Phase). ends p s) (sym e)
 
 returns : tie.Need-returns-in-InV
 unfolding ends
-returns c = ended c.before.before.before.before.args.s c.before.before.enum_told-1.given.1 (c.cut_off.ensures ∙ ap cut_off c.before.v_fault.ensures)
+returns c = ended c.before.before.before.args.s c.before.before.enum_told-1.given.1 (c.cut_off.ensures ∙ ap cut_off c.before.v_fault.ensures)
 
 returns_2 : tie.Need-returns-in-InC
 unfolding ends
-returns_2 c = ended c.before.before.before.before.args.s c.before.before.enum_told-in-InC-1.given.1 (c.cut_off-in-InC.ensures ∙ ap cut_off c.before.c_fault.ensures)
+returns_2 c = ended c.before.before.before.args.s c.before.before.enum_told-in-InC-1.given.1 (c.cut_off-in-InC.ensures ∙ ap cut_off c.before.c_fault.ensures)
 
 returns_3 : tie.Need-returns-in-InWeight
 unfolding ends
-returns_3 c = ended c.before.before.before.before.args.s c.before.before.enum_told-in-InWeight-1.given.1 (c.cut_off-in-InWeight.ensures ∙ ap cut_off c.before.long_fault.ensures)
+returns_3 c = ended c.before.before.before.args.s c.before.before.enum_told-in-InWeight-1.given.1 (c.cut_off-in-InWeight.ensures ∙ ap cut_off c.before.long_fault.ensures)
 
 returns_4 : tie.Need-returns-in-InVariable
 unfolding ends
-returns_4 c = ended c.before.before.before.before.args.s c.before.before.enum_told-in-InVariable-1.given.1 (c.cut_off-in-InVariable.ensures ∙ ap cut_off c.before.variable_fault.ensures)
+returns_4 c = ended c.before.before.before.args.s c.before.before.enum_told-in-InVariable-1.given.1 (c.cut_off-in-InVariable.ensures ∙ ap cut_off c.before.variable_fault.ensures)
 
 returns_5 : tie.Need-returns-in-InBound
 unfolding ends
-returns_5 c = ended c.before.before.before.before.args.s c.before.before.enum_told-in-InBound-1.given.1 (c.cut_off-in-InBound.ensures ∙ ap cut_off c.before.long_fault-in-InBound.ensures)
+returns_5 c = ended c.before.before.before.args.s c.before.before.enum_told-in-InBound-1.given.1 (c.cut_off-in-InBound.ensures ∙ ap cut_off c.before.long_fault-in-InBound.ensures)
 
 returns_6 : tie.Need-returns-in-LineStart
 unfolding ends
-returns_6 c = ended c.before.before.args.s c.enum_told-in-LineStart-1.given.1 refl
+returns_6 c = ended c.before.args.s c.enum_told-in-LineStart-1.given.1 refl
 
 returns_7 : tie.Need-returns-in-Between
 unfolding ends
-returns_7 c = ended c.before.before.args.s c.enum_told-in-Between-1.given.1 refl
+returns_7 c = ended c.before.args.s c.enum_told-in-Between-1.given.1 refl
 
 returns_8 : tie.Need-returns-in-Comment
 unfolding ends
-returns_8 c = ended c.before.before.args.s c.enum_told-in-Comment-1.given.1 refl
+returns_8 c = ended c.before.args.s c.enum_told-in-Comment-1.given.1 refl
 
 returns_9 : tie.Need-returns-in_default
 unfolding rest

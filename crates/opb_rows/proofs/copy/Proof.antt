@@ -17,6 +17,6 @@ copy_spec = tie.close (tie.spec
     omega (arith, two_copies c4.args.s c4.args.column.now (not-false _ c.before.if-not-s.false) c4.requires.0))
     (λ c. search rules)
     (λ c. let c3 = c.before.before.before in let c6 = c3.before.before.before in
-    is_copied c6.args.s c6.args.column.now (not-false _ c3.if1.false)
+    is_copied c6.args.s c6.args.column.now (not-false _ c3.if-not-s.false)
     (two_copies c6.args.s c6.args.column.now (not-false _ c3.if1.false) c6.requires.0) c.before.repeat.new.0
     c.before.repeat.ensures))

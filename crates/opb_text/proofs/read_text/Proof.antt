@@ -13,7 +13,7 @@ fill_requires c κs = let c7 = c.before.before.before.before.before.before.befor
       answer = told c20.args.text.now (seven_columns c20.args.heads.now c20.args.kinds.now c20.args.sides.now
           c20.args.bounds.now c20.args.counts.now c20.args.weights.now c20.args.literals.now) c14.least.ensures
           c13.least2.ensures c12.least3.ensures c11.least4.ensures c10.least5.ensures c9.decide.ensures;
-      taken = c7.if1.true;
+      taken = c7.if-r-eq0.true;
     }
 
 pub read_text_spec : {M : Type 1} → statement M

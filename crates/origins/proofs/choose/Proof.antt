@@ -11,7 +11,7 @@ same_size c = let s = c.before.before.before.before.before.before.before in
     c.mark.ensures.size ∙ length-set s.args.marks.now s.args.position _
 
 returns : tie.Need-returns
-returns c = let s = c.before.before.before.before.before.before.before.before.before.before.before in
+returns c = let s = c.before.before.before.before.before.before.before.before.before.before in
     choice _ _ s.requires.0 _ s.requires.1 _ (rw (
       c.before.before.before.before.before.before.before.before.atoms_of-n.ensures,
       c.before.before.before.before.before.before.before.sentences_of-sentences.ensures,

@@ -8,9 +8,9 @@ use Rattle.whole.specs.Inner.Usable.{Usable}
 use Rattle.propagate.proofs.propagate_within.Statement.{statement}
 use Rattle.propagate.proofs.propagate_within.Tie as tie
 
-usable : (c : tie.Else-not-is_whole) → let s = c.before.before.before.before in
+usable : (c : tie.Else-not-is_whole) → let s = c.before.before.before in
     Usable s.args.lim s.args.area.now (counted s.args.counters)
-usable c = record { fitting = c.before.before.before.before.requires; whole = granted c.before.is_whole.ensures c.if-not-is_whole.false }
+usable c = record { fitting = c.before.before.before.requires; whole = granted c.before.is_whole.ensures c.if-not-is_whole.false }
 
 pub propagate_within_spec : {M : Type 1} → statement M
 propagate_within_spec = tie.close (tie.spec

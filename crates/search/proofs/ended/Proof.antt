@@ -11,7 +11,7 @@ use Rattle.search.proofs.ended.Tie as tie
 pub ended_spec : {M : Type 1} → statement M
 ended_spec = tie.close (tie.spec
     (λ c. search rules) (λ c. search rules)
-    (λ c. let e : (propagated_returned c.before.before.before.args.answer).value ≡ c.before.answer-in-Still-1.given.0.0 = ap {A = Propagated}
+    (λ c. let e : (propagated_returned c.before.args.answer).value ≡ c.before.answer-in-Still-1.given.0.0 = ap {A = Propagated}
     (λ a. (propagated_returned a).value) c.before.answer-in-Still-1.given.1 in
     omega (arith, e, c.before.before.before.requires))
     (λ c. search rules)

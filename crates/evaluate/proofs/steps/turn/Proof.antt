@@ -9,7 +9,7 @@ pub turn_spec : {M : Type 1} → statement M
 turn_spec =
     tie.close
     (tie.spec
-    (λ c. search rules) (λ c κs. rw c.enum_told-1.given.1 at c.before.before.requires) (λ c κs. search rules)
+    (λ c. search rules) (λ c κs. rw c.enum_told-1.given.1 at c.before.requires) (λ c κs. search rules)
     (λ c. search rules) (λ c κs. rw c.enum_told-in-Product-1.given.1 at c.before.before.requires) (λ c κs. search rules)
     (λ c. search rules) (λ c κs. rw c.enum_told-in-Count-1.given.1 at c.before.before.requires) (λ c κs. search rules)
     (λ c. search rules) (λ c κs. search rules) (λ c. search rules) (λ c κs. search rules)
