@@ -1,6 +1,7 @@
 -- Each kind's own greatest weight, by document 01's number of the kind.
 use mathlib.Core.Path.{sym, ap}
 use borrow.Author.Rules.{rules}
+use native.Mathlib.Omega.{arith}
 use Rattle.kinds.specs.Kinds.{greatest_weight}
 use Rattle.area.specs.Layout.{kind_of}
 use Rattle.area.proofs.KindNumbers.{others_minimum}
@@ -22,7 +23,7 @@ returns_4 c = by_number greatest_weight c.before.before.args.kind (search rules)
 
 returns_5 : tie.Need-returns-in_default
 returns_5 c = by_number greatest_weight c.before.before.args.kind (search rules) c.greatest-in_default.ensures
-    (let h = c.before.in_default in ?)
+    (others_minimum c.before.before.args.kind (omega arith) (omega arith) (omega arith) (omega arith))
 
 pub greatest_weight_spec : {M : Type 1} → statement M
 greatest_weight_spec = tie.close (tie.spec

@@ -1,6 +1,7 @@
 -- Each kind's own least weight, by document 01's number of the kind.
 use mathlib.Core.Path.{sym, ap}
 use borrow.Author.Rules.{rules}
+use native.Mathlib.Omega.{arith}
 use Rattle.kinds.specs.Kinds.{least_weight}
 use Rattle.area.specs.Layout.{kind_of}
 use Rattle.area.proofs.KindNumbers.{others_minimum}
@@ -22,7 +23,7 @@ returns_4 c = by_number least_weight c.before.before.args.kind (search rules) c.
 
 returns_5 : tie.Need-returns-in_default
 returns_5 c = by_number least_weight c.before.before.args.kind (search rules) c.least-in_default.ensures
-    (let h = c.before.in_default in ?)
+    (others_minimum c.before.before.args.kind (omega arith) (omega arith) (omega arith) (omega arith))
 
 pub least_weight_spec : {M : Type 1} → statement M
 least_weight_spec = tie.close (tie.spec
