@@ -22,10 +22,10 @@ whole c = granted c.before.is_whole.ensures c.if-not-is_whole.false
 
 code : (c : tie.After-search_refusal-code) → let s = c.before.before.before.before in
     c.search_refusal-code.result ≡ refusal_code s.args.lim s.args.area.now (table.search s.args.literals.now)
-code c = c.search_refusal-code.ensures c.before.before.before.before.before.before.args.lim
+code c = c.search_refusal-code.ensures c.before.before.before.before.before.args.lim
 
 known : (c : tie.Else-code-ne0) → let s = c.before.before.before.before.before in AllKnown (atoms_of s.args.area.now) s.args.literals.now
-known c = let s = c.before.before.before.before.before.before.before in all_known s.args.lim s.args.area.now s.args.literals.now (sym (code c.before) ∙ c.if-code-ne0.false)
+known c = let s = c.before.before.before.before.before.before in all_known s.args.lim s.args.area.now s.args.literals.now (sym (code c.before) ∙ c.if-code-ne0.false)
 
 pub search_within_spec : {M : Type 1} → statement M
 search_within_spec = tie.close (tie.spec
