@@ -67,7 +67,7 @@ pub raised_zero : (v : Extended) → raised (pos 0) v ≡ v
 raised_zero v = elim v as (λ v. raised (pos 0) v ≡ v) [ below ↦ refl | at z ↦ ap at (+ℤ_idl z) | above ↦ refl ]
 
 raised_combine : (c : ℤ) (v : Extended) → raised c v ≡ combine sum (at c) v
-raised_combine c v = elim v [ below ↦ refl | at z ↦ refl | above ↦ refl ]
+raised_combine c v = elim v as (λ v. raised c v ≡ combine sum (at c) v) [ below ↦ refl | at z ↦ refl | above ↦ refl ]
 
 -- a constant of 0 changes nothing, and a kind that has another starts its fold there
 pub raised_starting : (k : Kind) (c : ℤ) (v : Extended) → (T (not (mixes k)) → c ≡ pos 0) → raised c v ≡ combine k (starting k c) v

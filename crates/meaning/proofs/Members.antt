@@ -78,13 +78,13 @@ module _ (P : ℤ → Type 0) where
 
   -- what the literal of every written entry has, the literal of every member has
   pub members_each : (k : Kind) (es : List Entry) → Each (λ e. P e.literal) es → Each (λ e. P e.literal) (members k es)
-  members_each k es h = elim k as (λ k. Each {A = Entry} (λ e. P e.literal) (members k es)) [ sum ↦ h | product ↦ h | count ↦ once_each (λ e. P e.literal) (ones es) (ones_each es h) | maximum ↦ h | minimum ↦ h ]
+  members_each k es h = elim k as (λ k. Each (λ e. P e.literal) (members k es)) [ sum ↦ h | product ↦ h | count ↦ once_each (λ e. P e.literal) (ones es) (ones_each es h) | maximum ↦ h | minimum ↦ h ]
 
 -- ---- the merge
 
 module _ (P : ℕ → Type 0) where
   turned_by_has : (w l : ℤ) → P (atom l) → P (entry_atom (turned_by w l))
-  turned_by_has w l = elim l as (λ l. P (entry_atom (turned_by w l))) [ pos a ↦ λ p. p | negsuc a ↦ λ p. p ]
+  turned_by_has w l = elim l as (λ l. P (atom l) → P (entry_atom (turned_by w l))) [ pos a ↦ λ p. p | negsuc a ↦ λ p. p ]
 
   turned_all_each : (es : List Entry) → Each (λ e. P (entry_atom e)) es → Each (λ e. P (entry_atom e)) (turned_all es)
   unfolding turned_all
@@ -92,7 +92,7 @@ module _ (P : ℕ → Type 0) where
   turned_all_each (e ∷ es) h = (turned_by_has e.weight e.literal h.0, turned_all_each es h.1)
 
   turned_each : (k : Kind) (es : List Entry) → Each (λ e. P (entry_atom e)) es → Each (λ e. P (entry_atom e)) (turned k es)
-  turned_each k es h = elim k [ sum ↦ turned_all_each es h | product ↦ h | count ↦ turned_all_each es h | maximum ↦ h | minimum ↦ h ]
+  turned_each k es h = elim k as (λ k. Each (λ e. P (entry_atom e)) (turned k es)) [ sum ↦ turned_all_each es h | product ↦ h | count ↦ turned_all_each es h | maximum ↦ h | minimum ↦ h ]
 
   pub merge_each : (k : Kind) (es : List Entry) → Each (λ e. P (entry_atom e)) es → Each (λ e. P (entry_atom e)) (merge k es).entries
   merge_each k es h = kept_each (λ e. P (entry_atom e)) k (collect k [] (turned k (members k es)))

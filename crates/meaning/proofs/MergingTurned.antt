@@ -12,7 +12,7 @@ use Rattle.meaning.proofs.Members.{same→eq}
 
 -- where a test puts a weight in front or not
 total_cond : (b : Bool) (w : ℤ) (ws : List ℤ) → total (cond b (w ∷ ws) ws) ≡ cond b w (pos 0) +ℤ total ws
-total_cond b w ws = elim b as (λ b. total (cond {A = List ℤ} b (w ∷ ws) ws) ≡ cond b w (pos 0) +ℤ total ws) [ true ↦ refl | false ↦ sym (+ℤ_idl (total ws)) ]
+total_cond b w ws = elim b as (λ b. total (cond b (w ∷ ws) ws) ≡ cond b w (pos 0) +ℤ total ws) [ true ↦ refl | false ↦ sym (+ℤ_idl (total ws)) ]
 
 -- what one entry gives, turned
 turned_by_value : (σ : Assignment) (w l : ℤ)

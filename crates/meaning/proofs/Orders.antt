@@ -22,7 +22,7 @@ pub is_true : {b : Bool} → T b → b ≡ true
 is_true {b} = elim b as (λ b. T b → b ≡ true) [ true ↦ λ t. refl | false ↦ absurd ]
 
 pub is_false : {b : Bool} → (T b → ⊥) → b ≡ false
-is_false {b} = elim b as (λ b. b ≡ false) [ true ↦ λ f. absurd (f tt) | false ↦ λ f. refl ]
+is_false {b} = elim b as (λ b. (T b → ⊥) → b ≡ false) [ true ↦ λ f. absurd (f tt) | false ↦ λ f. refl ]
 
 -- ---- the order on values
 
@@ -127,7 +127,7 @@ module _ (f : ℤ → ℤ → ℤ) where
   both_comm : ((a b : ℤ) → f a b ≡ f b a) → (v w : Extended) → both f v w ≡ both f w v
   both_comm c below w = elim w as (λ w. both f below w ≡ both f w below) [ below ↦ refl | at b ↦ refl | above ↦ refl ]
   both_comm c (at a) w = elim w as (λ w. both f (at a) w ≡ both f w (at a)) [ below ↦ refl | at b ↦ ap at (c a b) | above ↦ refl ]
-  both_comm c above w = elim w [ below ↦ refl | at b ↦ refl | above ↦ refl ]
+  both_comm c above w = elim w as (λ w. both f above w ≡ both f w above) [ below ↦ refl | at b ↦ refl | above ↦ refl ]
 
   both_assoc : ((a b c : ℤ) → f (f a b) c ≡ f a (f b c)) → (u v w : Extended) → both f (both f u v) w ≡ both f u (both f v w)
   both_assoc s below v w = refl
@@ -135,8 +135,8 @@ module _ (f : ℤ → ℤ → ℤ) where
   both_assoc s (at a) (at b) w = elim w as (λ w. both f (both f (at a) (at b)) w ≡ both f (at a) (both f (at b) w)) [ below ↦ refl | at c ↦ ap at (s a b c) | above ↦ refl ]
   both_assoc s (at a) above w = elim w as (λ w. both f (both f (at a) above) w ≡ both f (at a) (both f above w)) [ below ↦ refl | at c ↦ refl | above ↦ refl ]
   both_assoc s above below w = refl
-  both_assoc s above (at b) w = elim w [ below ↦ refl | at c ↦ refl | above ↦ refl ]
-  both_assoc s above above w = elim w [ below ↦ refl | at c ↦ refl | above ↦ refl ]
+  both_assoc s above (at b) w = elim w as (λ w. both f (both f above (at b)) w ≡ both f above (both f (at b) w)) [ below ↦ refl | at c ↦ refl | above ↦ refl ]
+  both_assoc s above above w = elim w as (λ w. both f (both f above above) w ≡ both f above (both f above w)) [ below ↦ refl | at c ↦ refl | above ↦ refl ]
 
   both_unit : (z : ℤ) → ((a : ℤ) → f a z ≡ a) → (v : Extended) → both f v (at z) ≡ v
   both_unit z u v = elim v as (λ v. both f v (at z) ≡ v) [ below ↦ refl | at a ↦ ap at (u a) | above ↦ refl ]
@@ -188,7 +188,7 @@ combine_empty sum v = both_unit ◌+ℤ◌ (pos 0) +ℤ_idr v
 combine_empty product v = both_unit ◌*ℤ◌ (pos 1) *ℤ-one v
 combine_empty count v = both_unit ◌+ℤ◌ (pos 0) +ℤ_idr v
 combine_empty maximum v = elim v as (λ v. combine maximum v (empty maximum) ≡ v) [ below ↦ refl | at a ↦ refl | above ↦ refl ]
-combine_empty minimum v = elim v [ below ↦ refl | at a ↦ refl | above ↦ refl ]
+combine_empty minimum v = elim v as (λ v. combine minimum v (empty minimum) ≡ v) [ below ↦ refl | at a ↦ refl | above ↦ refl ]
 
 pub empty_combine : (k : Kind) (v : Extended) → combine k (empty k) v ≡ v
 empty_combine k v = combine_comm k (empty k) v ∙ combine_empty k v

@@ -50,7 +50,7 @@ comparison_raised s b c (at z) =
       | lower ↦ same_test (le_z b (c +ℤ z)) (le_z (b -ℤ c) z) (λ h. omega ints) (λ h. omega ints)
       | upper ↦ same_test (le_z (c +ℤ z) b) (le_z z (b -ℤ c)) (λ h. omega ints) (λ h. omega ints)
     ]
-comparison_raised s b c above = elim s [ lower ↦ refl | upper ↦ refl ]
+comparison_raised s b c above = elim s as (λ s. comparison s b (raised c above) ≡ comparison s (b -ℤ c) above) [ lower ↦ refl | upper ↦ refl ]
 
 -- ---- when it is satisfied
 
@@ -93,7 +93,7 @@ abbrev lowered : Rule → Rule
 lowered r = rule_with (as_sentence r) (bare r)
 
 pub weighable_merged : (k : Kind) (w : ℤ) → T (weighable k w) → T (weighable (merged_kind k) w)
-weighable_merged k w = elim k as (λ k. T (weighable (merged_kind k) w)) [ sum ↦ λ h. h | product ↦ λ h. h | count ↦ λ h. h | maximum ↦ λ h. h | minimum ↦ λ h. h ]
+weighable_merged k w = elim k as (λ k. T (weighable k w) → T (weighable (merged_kind k) w)) [ sum ↦ λ h. h | product ↦ λ h. h | count ↦ λ h. h | maximum ↦ λ h. h | minimum ↦ λ h. h ]
 
 bare_represents : (r : Rule) → IsMerged r → Represents (as_sentence r) (bare r)
 unfolding merged_value
@@ -117,7 +117,7 @@ gather_count f v (e ∷ es) = gather_count f (combine sum v (f e)) es
 
 gather_merged : (k : Kind) (d : Direction) (t : List ℤ) (es : List Entry)
     → gather k (extreme_of k d t) (empty k) es ≡ gather (merged_kind k) (extreme_of (merged_kind k) d t) (starting (merged_kind k) (pos 0)) es
-gather_merged k d t es = elim k [ sum ↦ refl | product ↦ refl | count ↦ gather_count (extreme_of sum d t) (empty sum) es | maximum ↦ refl | minimum ↦ refl ]
+gather_merged k d t es = elim k as (λ k. gather k (extreme_of k d t) (empty k) es ≡ gather (merged_kind k) (extreme_of (merged_kind k) d t) (starting (merged_kind k) (pos 0)) es) [ sum ↦ refl | product ↦ refl | count ↦ gather_count (extreme_of sum d t) (empty sum) es | maximum ↦ refl | minimum ↦ refl ]
 
 -- a fold that starts at the constant ends further up by the constant
 extreme_raised : (d : Direction) (r : Rule) (t : List ℤ) → IsMerged r → extreme d r t ≡ raised r.set.constant (extreme d (lowered r) t)

@@ -71,6 +71,6 @@ pub same_value_is : (v w : Extended) → T (same_value v w) → v ≡ w
 same_value_is v w h = le_e_antisym v w (and_first (le_e v w) (le_e w v) h) (and_second (le_e v w) (le_e w v) h)
 
 pub same_said_is : (x y : Said) → T (same_said x y) → x ≡ y
-same_said_is silent y = elim y as (λ y. silent ≡ y) [ silent ↦ λ h. refl | conflict ↦ absurd | forced m ↦ absurd ]
-same_said_is conflict y = elim y [ silent ↦ absurd | conflict ↦ λ h. refl | forced m ↦ absurd ]
-same_said_is (forced l) y = elim y [ silent ↦ absurd | conflict ↦ absurd | forced m ↦ λ h. ap forced (same→eq l m h) ]
+same_said_is silent y = elim y as (λ y. T (same_said silent y) → silent ≡ y) [ silent ↦ λ h. refl | conflict ↦ absurd | forced m ↦ absurd ]
+same_said_is conflict y = elim y as (λ y. T (same_said conflict y) → conflict ≡ y) [ silent ↦ absurd | conflict ↦ λ h. refl | forced m ↦ absurd ]
+same_said_is (forced l) y = elim y as (λ y. T (same_said (forced l) y) → (forced l) ≡ y) [ silent ↦ absurd | conflict ↦ absurd | forced m ↦ λ h. ap forced (same→eq l m h) ]

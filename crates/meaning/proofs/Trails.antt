@@ -27,7 +27,7 @@ pub truth_settable : (l : ℤ) → truth l (truth l true) ≡ true
 truth_settable l = elim l as (λ l. truth l (truth l true) ≡ true) [ pos a ↦ refl | negsuc a ↦ refl ]
 
 pub atom_size : (l : ℤ) → atom l ≡ nat_abs l
-atom_size l = elim l [ pos a ↦ refl | negsuc a ↦ refl ]
+atom_size l = elim l as (λ l. atom l ≡ nat_abs l) [ pos a ↦ refl | negsuc a ↦ refl ]
 
 -- of every word: 0 and 1 are of no atom
 pub atom_half : (w : ℕ) → atom (literal_of w) ≡ w / 2
@@ -72,7 +72,7 @@ pub fixed_injective : {b c : Bool} → fixed b ≡ fixed c → b ≡ c
 fixed_injective e = cc
 
 pub is_free_of : (s : Standing) → T (is_free s) → s ≡ free
-is_free_of s = elim s as (λ s. s ≡ free) [ free ↦ λ h. refl | fixed b ↦ absurd ]
+is_free_of s = elim s as (λ s. T (is_free s) → s ≡ free) [ free ↦ λ h. refl | fixed b ↦ absurd ]
 
 pub standing_same : (l : ℤ) (t : List ℤ) → standing_of (l ∷ t) (atom l) ≡ fixed (truth l true)
 unfolding standing_of

@@ -19,20 +19,20 @@ use Rattle.meaning.proofs.Extremes.{extreme_bounds, extreme_attained, value_outs
 -- ---- tests
 
 pub and_first : (a b : Bool) → T (a && b) → T a
-and_first a b = elim a as (λ a. T a) [ true ↦ λ h. tt | false ↦ λ h. h ]
+and_first a b = elim a as (λ a. T (a && b) → T a) [ true ↦ λ h. tt | false ↦ λ h. h ]
 
 pub and_second : (a b : Bool) → T (a && b) → T b
 and_second a b = elim a as (λ a. T (a && b) → T b) [ true ↦ λ h. h | false ↦ absurd ]
 
 pub and_both : (a b : Bool) → T a → T b → T (a && b)
-and_both a b = elim a as (λ a. T (a && b)) [ true ↦ λ h k. k | false ↦ λ h k. h ]
+and_both a b = elim a as (λ a. T a → T b → T (a && b)) [ true ↦ λ h k. k | false ↦ λ h k. h ]
 
 beq_same : (b : Bool) → T (not (beq b b)) → ⊥
-beq_same b = elim b as (λ b. ⊥) [ true ↦ λ h. h | false ↦ λ h. h ]
+beq_same b = elim b as (λ b. T (not (beq b b)) → ⊥) [ true ↦ λ h. h | false ↦ λ h. h ]
 
 beq_equal : (b c : Bool) → ¬ (T (not (beq b c))) → b ≡ c
-beq_equal true c = elim c [ true ↦ λ n. refl | false ↦ λ n. absurd (n tt) ]
-beq_equal false c = elim c as (λ c. false ≡ c) [ true ↦ λ n. absurd (n tt) | false ↦ λ n. refl ]
+beq_equal true c = elim c as (λ c. ¬ (T (not (beq true c))) → true ≡ c) [ true ↦ λ n. refl | false ↦ λ n. absurd (n tt) ]
+beq_equal false c = elim c as (λ c. ¬ (T (not (beq false c))) → false ≡ c) [ true ↦ λ n. absurd (n tt) | false ↦ λ n. refl ]
 
 -- ---- conflict
 
@@ -78,7 +78,7 @@ module _ (s : Sentence) (m : Merged) (t : List ℤ) (p : Represents s m) where
 
 module _ (s : Sentence) (t : List ℤ) (l : ℤ) (n : 1 ≤ atom l) where
   one_or_other : (b c : Bool) → c ≡ not b → ¬ (c ≡ true) → b ≡ true
-  one_or_other b c = elim b as (λ b. c ≡ true) [ true ↦ λ e h. refl | false ↦ λ e h. absurd (h e) ]
+  one_or_other b c = elim b as (λ b. c ≡ not b → ¬ (c ≡ true) → b ≡ true) [ true ↦ λ e h. refl | false ↦ λ e h. absurd (h e) ]
 
   -- a literal is forced exactly when its opposite, put on, conflicts
   pub forced_conflict : Forces s t l → Conflicting s (neg_ℤ l ∷ t)
