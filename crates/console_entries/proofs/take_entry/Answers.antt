@@ -1,4 +1,7 @@
 -- Two words, both numbers (`Entries`).
+use mir.Syntax.{w64}
+use mir.ValLaws.{to_z-of_z}
+use borrow.Author.Rules.{rules}
 use Rattle.console_words.proofs.Cursor.{word_some, word_fits}
 use Rattle.console_entries.proofs.Entries.{no_entry, no_pair, no_weight, no_literal, entry_here}
 use Rattle.console_entries.proofs.take_entry.Goals as goal
@@ -37,4 +40,6 @@ pub returns-in_default-read_signed-2 : goal.returns-in_default-read_signed-2
 returns-in_default-read_signed-2 c = search no_literal
 
 pub returns : goal.returns
-returns c = ?
+returns c = rw (to_z-of_z w64 c.in-Integer.weight (search rules), to_z-of_z w64 c.in-Integer-read_signed.literal (search rules))
+    (entry_here c.args.line.now c.args.at c.next_word.ensures c.in-Word.is c.next_word-2.ensures c.in-Word-next_word.is c.read_signed.ensures
+    c.in-Integer.is c.read_signed-2.ensures c.in-Integer-read_signed.is)
