@@ -18,7 +18,7 @@ invariant-loop-area area₀ n count len level length₀ area length =
 abbrev decreases-loop-area : tie.decreases-loop-area
 decreases-loop-area area₀ n count len level length₀ area length = n - length
 
-sizes : (c : tie.In-Forced invariant-loop-area decreases-loop-area) → Sizes c.args.level c.in-Forced.s c.in-Forced.literal
+sizes : (c : tie.In-Forced invariant-loop-area decreases-loop-area) → Sizes c.args.level c.in-Forced.s c.in-Forced.place
 sizes c = forced_sizes (c.loop-area.invariant.1 c.requires.0 c.requires.1).searchable c.find-found.ensures c.in-Forced.is
 
 loop_again : tie.Need-loop-area-preserved invariant-loop-area decreases-loop-area
