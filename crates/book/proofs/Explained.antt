@@ -78,6 +78,10 @@ scope_numbered k [] [] s none h = absurd h
 scope_numbered zero (x ∷ ss) (j ∷ js) s (more p m) h = absurd h
 scope_numbered (suc zero) (x ∷ ss) (j ∷ js) s (more p m) h = p.scope_is ∙ ap (λ y. scope (rule_of y)) h
 scope_numbered (suc (suc k)) (x ∷ ss) (j ∷ js) s (more p m) h = scope_numbered (suc k) ss js s m h
+scope_numbered k [] (j ∷ js) s x4 h = elim x4 [ ]
+scope_numbered zero (x ∷ ss) [] s x6 h = elim x6 [ ]
+scope_numbered (suc zero) (x ∷ ss) [] s x9 h = elim x9 [ ]
+scope_numbered (suc (suc k)) (x ∷ ss) [] s x10 h = elim x10 [ ]
 
 -- ---- explanations
 

@@ -38,10 +38,16 @@ judges_numbered d k [] [] s none h = absurd h
 judges_numbered d zero (x ∷ ss) (j ∷ js) s (more p m) h = absurd h
 judges_numbered d (suc zero) (x ∷ ss) (j ∷ js) s (more p m) h = subst (λ y. Judges y j) h p
 judges_numbered d (suc (suc k)) (x ∷ ss) (j ∷ js) s (more p m) h = judges_numbered d (suc k) ss js s m h
+judges_numbered d k [] (j ∷ js) s x4 h = elim x4 [ ]
+judges_numbered d zero (x ∷ ss) [] s x6 h = elim x6 [ ]
+judges_numbered d (suc zero) (x ∷ ss) [] s x9 h = elim x9 [ ]
+judges_numbered d (suc (suc k)) (x ∷ ss) [] s x10 h = elim x10 [ ]
 
 pub judges_length : (ss : List Sentence) (js : List Judged) → JudgesAll ss js → length ss ≡ length js
 judges_length [] [] none = refl
 judges_length (s ∷ ss) (j ∷ js) (more p m) = ap suc (judges_length ss js m)
+judges_length [] (j ∷ js) x'' = elim x'' [ ]
+judges_length (s ∷ ss) [] x3 = elim x3 [ ]
 
 -- ---- atoms of a list
 

@@ -49,16 +49,32 @@ numbered_same f one k [] [] [] none none = refl
 numbered_same f one zero (s ∷ ss) (j ∷ js) (j' ∷ js') (more p m) (more p' m') = refl
 numbered_same f one (suc zero) (s ∷ ss) (j ∷ js) (j' ∷ js') (more p m) (more p' m') = one s j j' p p'
 numbered_same f one (suc (suc k)) (s ∷ ss) (j ∷ js) (j' ∷ js') (more p m) (more p' m') = numbered_same f one (suc k) ss js js' m m'
+numbered_same {A = A} f one k [] [] (j' ∷ js') _ x7 = elim x7 [ ]
+numbered_same {A = A} f one k [] (j ∷ js) _ x5 _ = elim x5 [ ]
+numbered_same {A = A} f one zero (s ∷ ss) [] _ x7 _ = elim x7 [ ]
+numbered_same {A = A} f one zero (s ∷ ss) (j ∷ js) [] _ x11 = elim x11 [ ]
+numbered_same {A = A} f one (suc zero) (s ∷ ss) [] _ x11 _ = elim x11 [ ]
+numbered_same {A = A} f one (suc zero) (s ∷ ss) (j ∷ js) [] _ x15 = elim x15 [ ]
+numbered_same {A = A} f one (suc (suc k)) (s ∷ ss) [] _ x12 _ = elim x12 [ ]
+numbered_same {A = A} f one (suc (suc k)) (s ∷ ss) (j ∷ js) [] _ x16 = elim x16 [ ]
 
 scopes_same : (ss : List Sentence) (js js' : List Judged) → JudgesAll ss js → JudgesAll ss js' → scopes js ≡ scopes js'
 scopes_same [] [] [] none none = refl
 scopes_same (s ∷ ss) (j ∷ js) (j' ∷ js') (more p m) (more p' m') = ap₂ ◌∷◌ (scope_same s j j' p p') (scopes_same ss js js' m m')
+scopes_same [] [] (j' ∷ js') _ x7 = elim x7 [ ]
+scopes_same [] (j ∷ js) _ x5 _ = elim x5 [ ]
+scopes_same (s ∷ ss) [] _ x5 _ = elim x5 [ ]
+scopes_same (s ∷ ss) (j ∷ js) [] _ x9 = elim x9 [ ]
 
 speech_same : (t : List ℤ) → Consistent t → (k : ℕ) (ss : List Sentence) (js js' : List Judged) → JudgesAll ss js → JudgesAll ss js' → first_to_speak k js t ≡ first_to_speak k js' t
 unfolding first_to_speak
 speech_same t c k [] [] [] none none = refl
 speech_same t c k (s ∷ ss) (j ∷ js) (j' ∷ js') (more p m) (more p' m') =
     ap₂ (λ y rest. spoken y k rest) (said_same t c s j j' p p') (speech_same t c (suc k) ss js js' m m')
+speech_same t c k [] [] (j' ∷ js') _ x7 = elim x7 [ ]
+speech_same t c k [] (j ∷ js) _ x5 _ = elim x5 [ ]
+speech_same t c k (s ∷ ss) [] _ x5 _ = elim x5 [ ]
+speech_same t c k (s ∷ ss) (j ∷ js) [] _ x9 = elim x9 [ ]
 
 module _ (n : ℕ) (ss : List Sentence) (js js' : List Judged) (w : Each (Scoped n) ss) (m : JudgesAll ss js) (m' : JudgesAll ss js') where
   run_same : (v steps : ℕ) (rs : List Row) → Sound n ss v rs → run js v steps rs ≡ run js' v steps rs

@@ -60,6 +60,8 @@ module _ (t : List ℤ) where
       go silent h rest = told_later s ss k (first_to_speak (suc (suc k)) js t) h rest
       go conflict h rest = located_first (λ s. Conflicting s t) s ss k h
       go (forced l) h rest = located_first (ForcesFirst t l) s ss k h
+  speech_told c k [] (j ∷ js) x'' = elim x'' [ ]
+  speech_told c k (s ∷ ss) [] x3 = elim x3 [ ]
 
   module _ (c : Consistent t) (ss : List Sentence) (js : List Judged) (m : JudgesAll ss js) where
     spoken_of : (P : Sentence → Type 0) (k : ℕ) → Located P ss 0 k → Speaker t P ss k

@@ -10,7 +10,7 @@ use Rattle.meaning.proofs.Verdicts.{and_first, and_second}
 use Rattle.kinds.specs.Kinds.{between, weight_fits}
 
 pub fits_weighable : (k : Kind) (w : ℤ) → T (weight_fits k w) → T (weighable k w)
-fits_weighable k w = elim k as (λ k. T (weighable k w)) [
+fits_weighable k w = elim k as (λ k. T (weight_fits k w) → T (weighable k w)) [
   | sum ↦ λ t. tt
   | product ↦ and_first (le_z (pos 1) w) (le_z w (pos weight_limit))
   | count ↦ λ t. tt
