@@ -7,6 +7,7 @@ ghost use Rattle.std.specs.Prelude.{◌≤◌, length};
 use console_answers::{LIST, ROWS};
 use console_names::{Bare, OfLiteral, OfNumber};
 use console_text::{Command, Rule};
+use std::io::{Read, Stdin};
 use types::{Atom, Counters, Level, Limits, Sentence};
 
 // The longest line.
@@ -454,15 +455,20 @@ fn feed(
     now
 }
 
-// What comes next on standard input; nothing at its end.
-fn read_some(input: &mut [u8]) -> usize
+// What comes next on standard input; nothing at its end, nor where it cannot be read.
+fn read_some(from: Stdin, input: &mut [u8]) -> usize
     ensures { result ≤ length input.new }
 {
-    io::count(libc::read(0, input), input)
+    let mut reader = from;
+    match reader.read(input) {
+        Ok(n) => n,
+        Err(_) => 0,
+    }
 }
 
 // Reads to the end. No input outlasts the turns: each but the last takes a byte of it.
 fn read_all(
+    from: Stdin,
     input: &mut [u8],
     line: &mut [u8; 65_536],
     area: &mut [u64],
@@ -478,7 +484,7 @@ fn read_all(
     let mut turns: u64 = 18_446_744_073_709_551_615;
     while turns > 0 {
         turns -= 1;
-        let n = read_some(input);
+        let n = read_some(from, input);
         if n == 0 {
             return now;
         }
@@ -528,7 +534,7 @@ fn finish(s: Kept) {
     }
 }
 
-fn main() {
+fn main(rt: HostRuntime) {
     let mut input = [0u8; 4096];
     let mut line = [0u8; 65_536];
     let mut area = [0u64; 14_336];
@@ -540,6 +546,7 @@ fn main() {
     let mut weights = [0i64; 4096];
     let mut literals = [0i64; 4096];
     let s = read_all(
+        rt.stdin(),
         &mut input,
         &mut line,
         &mut area,

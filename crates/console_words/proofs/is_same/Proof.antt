@@ -22,10 +22,10 @@ is_same_spec = tie.close (tie.spec
     (λ c. (omega arith, omega arith, refl)) (λ c. search rules) (λ c. search rules)
     (λ c. let p = c.before.before.before.before in let s = p.before.before in let w = s.args.word.now in
     let t = s.args.text.now in let i = p.loop-i.i in
-    sym (p.loop.invariant.2 ∙ differ w t i (omega arith) (omega arith) c.if-word-i.true))
+    sym (p.loop-i.invariant.2 ∙ differ w t i (omega arith) (omega arith) c.if-word-i.true))
     (λ c. search rules) (λ c. search rules)
     (λ c. let p = c.before.before.before.before in let s = p.before.before in let w = s.args.word.now in
-    let t = s.args.text.now in let i = p.loop.i in
-    (omega arith, omega arith, p.loop.invariant.2 ∙ rw add-one (same_front w t i (omega arith) (omega arith) c.if-word-i.false)))
+    let t = s.args.text.now in let i = p.loop-i.i in
+    (omega arith, omega arith, p.loop-i.invariant.2 ∙ rw add-one (same_front w t i (omega arith) (omega arith) c.if-word-i.false)))
     (λ c. let w = c.before.before.before.args.word.now in let t = c.before.before.before.args.text.now in
     sym (c.before.loop-i.invariant.2 ∙ same_ends w t c.before.loop-i.i (omega arith) (omega arith))))

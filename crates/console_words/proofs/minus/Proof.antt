@@ -9,12 +9,12 @@ use Rattle.console_words.proofs.minus.Tie as tie
 pub minus_spec : {M : Type 1} → statement M
 minus_spec = tie.close (tie.spec
     (λ c. search rules) (λ c. search rules) (λ c. search rules)
-    (λ c. let g = c.before.before.x-1.given in
-    sym (minus_large _ g.0.0 g.1 (omega arith)))
-    (λ c. let g = c.before.before.before.x-1.given in
-    sym (minus_zero _ g.0.0 g.1 (omega arith)))
+    (λ c. let g = c.before.in-Natural in
+    sym (minus_large _ g.n g.is (omega arith)))
+    (λ c. let g = c.before.before.in-Natural in
+    sym (minus_zero _ g.n g.is (omega arith)))
     (λ c. search rules) (λ c. search rules)
-    (λ c. let g = c.before.before.before.x-1.given in
-    opposite_safe g.0.0 (omega arith) (omega arith))
-    (λ c. let g = c.before.before.before.x-1.given in
-    sym (minus_fits _ g.0.0 g.1 (omega arith) (omega arith))))
+    (λ c. let g = c.before.before.in-Natural in
+    opposite_safe g.n (omega arith) (omega arith))
+    (λ c. let g = c.before.before.in-Natural in
+    sym (minus_fits _ g.n g.is (omega arith) (omega arith))))

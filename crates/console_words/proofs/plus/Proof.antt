@@ -9,8 +9,8 @@ use Rattle.console_words.proofs.plus.Tie as tie
 pub plus_spec : {M : Type 1} → statement M
 plus_spec = tie.close (tie.spec
     (λ c. search rules) (λ c. search rules) (λ c. search rules)
-    (λ c. let g = c.before.before.x-1.given in
-    sym (plus_large _ g.0.0 g.1 (omega arith)))
+    (λ c. let g = c.before.in-Natural in
+    sym (plus_large _ g.n g.is (omega arith)))
     (λ c. search rules)
-    (λ c. let g = c.before.before.x-1.given in
-    sym (plus_fits _ g.0.0 g.1 (omega arith))))
+    (λ c. let g = c.before.in-Natural in
+    sym (plus_fits _ g.n g.is (omega arith))))

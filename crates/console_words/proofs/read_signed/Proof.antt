@@ -22,4 +22,4 @@ read_signed_spec = tie.close (tie.spec
     (λ c κs. search rules) (λ c κs. search rules)
     (λ c. let i2 = c.before.before.before.before in let s = i2.before.before.before.before in let w = s.args.word.now in
     c.plus-2.ensures ∙ ap plus c.before.read_unsigned-2.ensures
-    ∙ sym (unsigned_digits w (omega arith) i2.if2.false c.before.before.if-word-eq45.false)))
+    ∙ sym (unsigned_digits w (omega arith) i2.if-word-eq43.false c.before.before.if-word-eq45.false)))

@@ -24,15 +24,15 @@ read_unsigned_spec = tie.close (tie.spec
     let n = c.before.before.before.loop-i.n in
     sym (c.before.before.before.loop-i.invariant.2 ∙ below_digits w i n (omega arith) (omega arith)))
     (λ c. let p = c.before.before.before.before in let s = p.before.before in let w = s.args.word.now in let i = p.loop-i.i in
-    let n = p.loop.n in
-    sym (p.loop.invariant.2 ∙ above_digits w i n (omega arith) (omega arith)))
+    let n = p.loop-i.n in
+    sym (p.loop-i.invariant.2 ∙ above_digits w i n (omega arith) (omega arith)))
     (λ c. search rules) (λ c. search rules)
     (λ c. let p = c.before.before.before.before.before in let s = p.before.before in let w = s.args.word.now in
-    let i = p.loop.i in let n = p.loop.n in
-    sym (p.loop.invariant.2 ∙ digit_read w i n (omega arith) (omega arith) (omega arith) ∙ too_large _ _ (omega arith)))
+    let i = p.loop-i.i in let n = p.loop-i.n in
+    sym (p.loop-i.invariant.2 ∙ digit_read w i n (omega arith) (omega arith) (omega arith) ∙ too_large _ _ (omega arith)))
     (λ c. omega arith) (λ c. omega arith) (λ c. search rules) (λ c. search rules)
     (λ c. let p = c.before.before.before.before.before in let s = p.before.before in let w = s.args.word.now in
-    let i = p.loop.i in let n = p.loop.n in
-    (omega arith, omega arith, p.loop.invariant.2 ∙ rw add-one (digit_read w i n (omega arith) (omega arith) (omega arith))))
+    let i = p.loop-i.i in let n = p.loop-i.n in
+    (omega arith, omega arith, p.loop-i.invariant.2 ∙ rw add-one (digit_read w i n (omega arith) (omega arith) (omega arith))))
     (λ c. sym (c.before.loop-i.invariant.2
     ∙ read_all c.before.before.before.args.word.now c.before.loop-i.i c.before.loop-i.n (omega arith) (omega arith))))

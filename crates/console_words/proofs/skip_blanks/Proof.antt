@@ -5,7 +5,6 @@ use native.Mathlib.Numerals.{add-one}
 use native.Mathlib.Omega.{arith}
 use lib.ListN.{length, drop}
 use borrow.Author.Rules.{rules}
-use borrow.Author.Tests.{not-true, not-false}
 use Rattle.console_words.specs.Words.{words}
 use Rattle.console_words.proofs.Words.{blank_passed}
 use Rattle.console_words.proofs.skip_blanks.Statement.{statement}
@@ -24,16 +23,16 @@ returns c = let p = c.before.before.before.before in
       fits = omega arith;
       words_are = p.loop-i.invariant.2;
       stops = λ _. sym c.before.is_blank.ensures
-          ∙ not-true _ c.if-not-is_blank.true;
+          ∙ c.if-not-is_blank.true;
     }
 
 pub skip_blanks_spec : {M : Type 1} → statement M
 skip_blanks_spec = tie.close (tie.spec
     invariant-loop-i decreases-loop-i (λ c. (omega arith, omega arith, refl)) (λ c. search rules) (λ c κs. search rules) returns (λ c. search rules) (λ c. search rules)
-    (λ c. let p = c.before.before.before.before in let s = p.before.before in let l = s.args.line.now in let i = p.loop.i in (
+    (λ c. let p = c.before.before.before.before in let s = p.before.before in let l = s.args.line.now in let i = p.loop-i.i in (
       omega arith,
       omega arith,
-      p.loop.invariant.2 ∙ rw add-one (blank_passed l i (omega arith) (sym c.before.is_blank.ensures ∙ not-false _ c.if-not-is_blank.false)),
+      p.loop-i.invariant.2 ∙ rw add-one (blank_passed l i (omega arith) (sym c.before.is_blank.ensures ∙ c.if-not-is_blank.false)),
     ))
     (λ c. record {
       begins = omega arith;

@@ -23,7 +23,7 @@ returns c = let p = c.before.before.before.before in let s = p.before.before in 
       begins = omega arith;
       some = omega arith;
       fits = omega arith;
-      words_are = p.loop.invariant.2
+      words_are = p.loop-i.invariant.2
           ∙ run_ends l f i (omega arith) (omega arith) (sym c.before.is_blank.ensures ∙ c.if-is_blank.true);
     }
 
@@ -47,9 +47,9 @@ word_end_spec = tie.close (tie.spec
     ))
     (λ c. search rules) (λ c κs. search rules) returns (λ c. search rules) (λ c. search rules)
     (λ c. let p = c.before.before.before.before in let s = p.before.before in let l = s.args.line.now in let f = s.args.from in
-    let i = p.loop.i in (
+    let i = p.loop-i.i in (
       omega arith,
       omega arith,
-      p.loop.invariant.2 ∙ rw add-one (run_grows l f i (omega arith) (omega arith) (sym c.before.is_blank.ensures ∙ c.if-is_blank.false)),
+      p.loop-i.invariant.2 ∙ rw add-one (run_grows l f i (omega arith) (omega arith) (sym c.before.is_blank.ensures ∙ c.if-is_blank.false)),
     ))
     returns_2)

@@ -1,0 +1,11 @@
+-- The loop fills the array; what is left of it falls.
+use mathlib.Core.Path.{◌≡◌}
+use Prim.Native.Nat.{◌≤◌, ◌-◌}
+use lib.ListN.{length}
+use Rattle.reports_test.proofs.diamond_counts.Given as goal
+
+abbrev pub invariant-loop-d : goal.invariant-loop-d
+invariant-loop-d l = (l.d ≤ 85) × (length l.counts ≡ 255)
+
+abbrev pub decreases-loop-d : goal.decreases-loop-d
+decreases-loop-d l = 85 - l.d
