@@ -2,8 +2,8 @@
  * First one call tries each crate on each truck in turn, as far as that goes. Then all plans are printed, and why the last literal of the
  * last plan was derived.
  *
- *     rt staticlib dalelead_c
- *     gcc -I include -o plan examples/c/plan.c target/staticlib/libdalelead_c.a
+ *     (cd crates/dalelead_c && rt lib)
+ *     gcc -I include -o plan examples/c/plan.c crates/dalelead_c/out/libdalelead_c.a
  */
 #include <stdio.h>
 #include <stdlib.h>

@@ -26,7 +26,8 @@ found k false true c d e f rest = refl
 found k false false true d e f rest = refl
 found k false false false true e f rest = refl
 found k false false false false true f rest = refl
-found k false false false false false f rest = elim f [ true ↦ refl | false ↦ refl ]
+found k false false false false false true rest = refl
+found k false false false false false false rest = refl
 
 none_found : (a b c d e f : Bool) → first_code a b c d e f ≡ 0 → Each (λ b. b ≡ false) (a ∷ b ∷ c ∷ d ∷ e ∷ f ∷ [])
 none_found true b c d e f z = absurd (omega arith)

@@ -56,7 +56,8 @@ one_signed (e ∷ es) h =
 -- ---- a sentence that passes
 
 and_false : (a b : Bool) → (a && b) ≡ false → T a → b ≡ false
-and_false a b = elim a as (λ a. ⊥) [ true ↦ λ e t. e | false ↦ λ e t. absurd t ]
+and_false true b e t = e
+and_false false b e t = absurd t
 
 module _ (lim : Limits) (n : ℕ) (x : Written) (v : Passes lim n x) where
   few_kinds : (x.kind ≤ 4) × (x.side ≤ 1) × (length x.entries ≤ lim.each)

@@ -18,7 +18,7 @@ use Rattle.entry_words.specs.Inner.Entries.{Joinable}
 -- ---- sums and counts
 
 small : (k : Kind) (v w : ℤ) → T (mixes k) → Joinable k v w → (nat_abs v ≤ 4096000000000) × (nat_abs w ≤ 1000000000)
-small k v w = elim k as (λ k. nat_abs v ≤ 4096000000000 × nat_abs w ≤ 1000000000) [ sum ↦ λ m j. j | product ↦ λ m j. absurd m | count ↦ λ m j. j | maximum ↦ λ m j. absurd m | minimum ↦ λ m j. absurd m ]
+small k v w = elim k as (λ k. T (mixes k) → Joinable k v w → (nat_abs v ≤ 4096000000000) × (nat_abs w ≤ 1000000000)) [ sum ↦ λ m j. j | product ↦ λ m j. absurd m | count ↦ λ m j. j | maximum ↦ λ m j. absurd m | minimum ↦ λ m j. absurd m ]
 
 pub record Sum (x y : ℕ) : Type 0 where
   pub low : half ≤ x + y
@@ -34,7 +34,7 @@ sum_fits kind x y m j =
     }
 
 pub joined_sum : (k : Kind) (v w : ℤ) → T (mixes k) → joined k v w ≡ v +ℤ w
-joined_sum k v w = elim k as (λ k. joined k v w ≡ v +ℤ w) [ sum ↦ λ m. refl | product ↦ absurd | count ↦ λ m. refl | maximum ↦ absurd | minimum ↦ absurd ]
+joined_sum k v w = elim k as (λ k. T (mixes k) → joined k v w ≡ v +ℤ w) [ sum ↦ λ m. refl | product ↦ absurd | count ↦ λ m. refl | maximum ↦ absurd | minimum ↦ absurd ]
 
 pub sum_joins : (kind x y : ℕ) → mixes (kind_of kind) ≡ true → Joinable (kind_of kind) (unbias x) (unbias y) → unbias (x + y - half) ≡ joined (kind_of kind) (unbias x) (unbias y)
 sum_joins kind x y m j = unbias_sum x y (sum_fits kind x y m j).low ∙ sym (joined_sum (kind_of kind) (unbias x) (unbias y) (T_true m))

@@ -62,10 +62,10 @@ is_minimum (suc (suc (suc (suc k)))) m p q = refl
 -- ---- turned entries
 
 plain : (k : Kind) (e : Entry) → mixes k ≡ false → (positive k e ≡ e) × (freed k e ≡ pos 0)
-plain k e = elim k [ sum ↦ λ h. (cc, cc) | product ↦ λ h. (refl, refl) | count ↦ λ h. (cc, cc) | maximum ↦ λ h. (refl, refl) | minimum ↦ λ h. (refl, refl) ]
+plain k e = elim k as (λ k. mixes k ≡ false → (positive k e ≡ e) × (freed k e ≡ pos 0)) [ sum ↦ λ h. (cc, cc) | product ↦ λ h. (refl, refl) | count ↦ λ h. (cc, cc) | maximum ↦ λ h. (refl, refl) | minimum ↦ λ h. (refl, refl) ]
 
 mixed : (k : Kind) (e : Entry) → mixes k ≡ true → (positive k e ≡ turned_by e.weight e.literal) × (freed k e ≡ freed_by e.weight e.literal)
-mixed k e = elim k as (λ k. positive k e ≡ turned_by e.weight e.literal) [ sum ↦ λ h. (refl, refl) | product ↦ λ h. (cc, cc) | count ↦ λ h. (refl, refl) | maximum ↦ λ h. (cc, cc) | minimum ↦ λ h. (cc, cc) ]
+mixed k e = elim k as (λ k. mixes k ≡ true → (positive k e ≡ turned_by e.weight e.literal) × (freed k e ≡ freed_by e.weight e.literal)) [ sum ↦ λ h. (refl, refl) | product ↦ λ h. (cc, cc) | count ↦ λ h. (refl, refl) | maximum ↦ λ h. (cc, cc) | minimum ↦ λ h. (cc, cc) ]
 
 pub turned_plain : (kind x l : ℕ) → mixes (kind_of kind) ≡ false → 2 ≤ l → l ≤ 8193 → TurnedIs kind x l (record { weight = x; literal = l; freed = half })
 turned_plain kind x l m low high = record {

@@ -38,8 +38,8 @@ use Rattle.evaluate.proofs.Comparisons.{kept_at}
 -- the second best is of the kind's own contributions, where it counts
 second_same : (k : Kind) (u : Bool) (limit : ℕ) (v : ℕ → ℕ) (ws : List ℕ)
     → (leaves_second k u && keeps u limit (second_best u (empty_word (best_kind u)) (empty_word (best_kind u)) (contributions k u v ws))) ≡ (leaves_second k u && keeps u limit (second_word u v ws))
-second_same k true limit v ws = elim k [ Sum ↦ refl | Product ↦ refl | Count ↦ refl | Max ↦ refl | Min ↦ refl ]
-second_same k false limit v ws = elim k [ Sum ↦ refl | Product ↦ refl | Count ↦ refl | Max ↦ refl | Min ↦ refl ]
+second_same k true limit v ws = elim k as (λ k. (leaves_second k true && keeps true limit (second_best true (empty_word (best_kind true)) (empty_word (best_kind true)) (contributions k true v ws))) ≡ (leaves_second k true && keeps true limit (second_word true v ws))) [ Sum ↦ refl | Product ↦ refl | Count ↦ refl | Max ↦ refl | Min ↦ refl ]
+second_same k false limit v ws = elim k as (λ k. (leaves_second k false && keeps false limit (second_best false (empty_word (best_kind false)) (empty_word (best_kind false)) (contributions k false v ws))) ≡ (leaves_second k false && keeps false limit (second_word false v ws))) [ Sum ↦ refl | Product ↦ refl | Count ↦ refl | Max ↦ refl | Min ↦ refl ]
 
 limit_small : (upper : Bool) (bound : ℕ) → bound + 1 ≤ top → limit_word upper bound ≤ top
 limit_small true bound h = h

@@ -75,10 +75,10 @@ module _ (u : Bool) where
       let l = lower u b s z (best (furthest_word u b z) r) h (passes (furthest_word u b z) r) (sym (ap (λ t. best t r) (combined_best u b z)) ∙ e) in
       rw (combined_best u s z, l.0, l.1) (runner b (furthest_word u s z) r l.2 (sym (ap (λ t. best t r) (combined_best u b z ∙ l.0)) ∙ e))
 
-  pub best_swap : (acc second x y : ℕ) {xs ys : List ℕ} → Swapped x y xs ys → furthest_word u second acc ≡ acc
+  pub best_swap : (x y acc second : ℕ) {xs ys : List ℕ} → Swapped x y xs ys → furthest_word u second acc ≡ acc
       → furthest_word u (cond (eqb x (best acc xs)) (second_best u acc second xs) (best acc xs)) y ≡ best acc ys
   unfolding folded second_best
-  best_swap acc second x y (here {r}) h = go (eqb x E) refl
+  best_swap x y acc second (here {r}) h = go (eqb x E) refl
     where
       M : ℕ
       M = best acc r
@@ -103,17 +103,17 @@ module _ (u : Bool) where
           ∙ runner (furthest_word u acc x) acc r (sym (assoc u acc acc x) ∙ ap (λ z. furthest_word u z x) (idem u acc)) (ap (λ t. best t r) (sym (combined_best u acc x)) ∙ furthest_is ∙ sym q.2) in
           ap (λ t. furthest_word u t y) s ∙ sym target
       go false e = ap (λ t. furthest_word u t y) (furthest_is ∙ miss u x M (λ z. eqb-false x E e (z ∙ sym furthest_is))) ∙ sym target
-  best_swap acc second x y (there {z} {xs} {ys} s) h =
+  best_swap x y acc second (there {z} {xs} {ys} s) h =
       rw (combined_best u acc z)
-      (best_swap (furthest_word u acc z) (furthest_word u second (nearest_word u acc z)) x y s (behind u acc second z h))
+      (best_swap x y (furthest_word u acc z) (furthest_word u second (nearest_word u acc z)) s (behind u acc second z h))
 
   -- a contribution that the start passes, replaced
-  pub empty_swap : (empty acc y : ℕ) {xs ys : List ℕ} → furthest_word u acc empty ≡ acc → Swapped empty y xs ys → best acc ys ≡ furthest_word u (best acc xs) y
+  pub empty_swap : (empty y acc : ℕ) {xs ys : List ℕ} → furthest_word u acc empty ≡ acc → Swapped empty y xs ys → best acc ys ≡ furthest_word u (best acc xs) y
   unfolding folded
-  empty_swap empty acc y h (here {r}) =
+  empty_swap empty y acc h (here {r}) =
       ap (λ t. best t r) (combined_best u acc y ∙ comm u acc y) ∙ pull y acc r ∙ comm u y (best acc r)
       ∙ ap (λ t. furthest_word u (best t r) y) (sym (combined_best u acc empty ∙ h))
-  empty_swap empty acc y h (there {z} {xs} {ys} s) =
+  empty_swap empty y acc h (there {z} {xs} {ys} s) =
       rw (combined_best u acc z)
-      (empty_swap empty (furthest_word u acc z) y
+      (empty_swap empty y (furthest_word u acc z)
       (assoc u acc z empty ∙ ap (furthest_word u acc) (comm u z empty) ∙ sym (assoc u acc empty z) ∙ ap (λ t. furthest_word u t z) h) s)

@@ -31,12 +31,12 @@ module _ (k : Kind) (is : (a b : ℕ) → combined k a b ≡ a + b - half) (low 
       let ih : folded k (combined k a z) r + combined k b z ≡ folded k (combined k b z) r + combined k a z = shift (combined k a z) (combined k b z) r p.1 q.1 in
       omega (arith, is a z, is b z, low a z p.0, low b z q.0)
 
-  pub sum_swap : (acc x y : ℕ) {xs ys : List ℕ} → Swapped x y xs ys → Room k acc xs → Room k acc ys → folded k acc ys + x ≡ folded k acc xs + y
+  pub sum_swap : (x y acc : ℕ) {xs ys : List ℕ} → Swapped x y xs ys → Room k acc xs → Room k acc ys → folded k acc ys + x ≡ folded k acc xs + y
   unfolding folded Room
-  sum_swap acc x y (here {r}) p q =
+  sum_swap x y acc (here {r}) p q =
       let e : folded k (combined k acc y) r + combined k acc x ≡ folded k (combined k acc x) r + combined k acc y = shift (combined k acc y) (combined k acc x) r q.1 p.1 in
       omega (arith, is acc x, is acc y, low acc x p.0, low acc y q.0)
-  sum_swap acc x y (there {z} s) p q = sum_swap (combined k acc z) x y s p.1 q.1
+  sum_swap x y acc (there {z} s) p q = sum_swap x y (combined k acc z) s p.1 q.1
 
 -- ---- products
 

@@ -30,10 +30,10 @@ turns_any : (k : Kind) (u : Bool) (c w : ℕ) {xs ys : List ℕ} → In k w → 
     → Room k (start_word k c) xs → Room k (start_word k c) ys
     → Swapped (furthest_word u w (empty_word k)) (nearest_word u w (empty_word k)) xs ys → Turns k u (folded k (start_word k c) xs) w
 turns_any Sum u c w {xs} {ys} i high p q a b s =
-    turns_sum u (folded Sum c xs) (folded Sum c ys) w p.1 high (sum_swap Sum (λ a b. refl) (λ a b h. h.0) c (furthest_word u w half) (nearest_word u w half) s a b)
+    turns_sum u (folded Sum c xs) (folded Sum c ys) w p.1 high (sum_swap Sum (λ a b. refl) (λ a b h. h.0) (furthest_word u w half) (nearest_word u w half) c s a b)
 turns_any Product u c w {xs} {ys} i high p q a b s = turns_product u (folded Product (half + 1) xs) (folded Product (half + 1) ys) w p q i.0 (product_turned u w i.0 s)
 turns_any Count u c w {xs} {ys} i high p q a b s =
-    turns_sum u (folded Count c xs) (folded Count c ys) w p.1 high (sum_swap Count (λ a b. refl) (λ a b h. h.0) c (furthest_word u w half) (nearest_word u w half) s a b)
+    turns_sum u (folded Count c xs) (folded Count c ys) w p.1 high (sum_swap Count (λ a b. refl) (λ a b h. h.0) (furthest_word u w half) (nearest_word u w half) c s a b)
 turns_any Max u c w i high p q a b s = tt
 turns_any Min u c w i high p q a b s = tt
 

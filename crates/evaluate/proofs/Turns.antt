@@ -79,7 +79,7 @@ second_told u limit w small high {xs} s h =
     let start = empty_word (best_kind u) in
     let E = folded (best_kind u) start xs in
     ap (λ f. not (keeps u limit f))
-    (sym (best_swap u start start (furthest_word u w start) (nearest_word u w start) s (empty_empty u)) ∙ rw ((weight_sides u w high).0, (weight_sides u w high).1))
+    (sym (best_swap u (furthest_word u w start) (nearest_word u w start) start start s (empty_empty u)) ∙ rw ((weight_sides u w high).0, (weight_sides u w high).1))
     ∙ left_told limit small u (eqb w E) E (second_best u start start xs) h
 
 -- ---- a maximum down and a minimum up: the weight comes in
@@ -103,15 +103,15 @@ pub turned_loses : (k : Kind) (u : Bool) (limit c w : ℕ) → limit ≤ top →
     → keeps u limit (folded k (start_word k c) xs) ≡ true → not (keeps u limit (folded k (start_word k c) ys))
     ≡ (not (leaves_second k u && keeps u limit (second_best u (empty_word (best_kind u)) (empty_word (best_kind u)) xs)) && turns_word k u limit (folded k (start_word k c) xs) w)
 turned_loses Sum u limit c w small high i {xs} {ys} s p q h =
-    ap (λ f. not (keeps u limit f)) (shifted_is u (folded Sum c xs) (folded Sum c ys) w (sum_swap Sum (λ a b. refl) (λ a b r. r.0) c (furthest_word u w half) (nearest_word u w half) s p q))
+    ap (λ f. not (keeps u limit f)) (shifted_is u (folded Sum c xs) (folded Sum c ys) w (sum_swap Sum (λ a b. refl) (λ a b r. r.0) (furthest_word u w half) (nearest_word u w half) c s p q))
 turned_loses Product u limit c w small high i s p q h = ap (λ f. not (keeps u limit f)) (product_turned u w i.0 s)
 turned_loses Count u limit c w small high i {xs} {ys} s p q h =
-    ap (λ f. not (keeps u limit f)) (shifted_is u (folded Count c xs) (folded Count c ys) w (sum_swap Count (λ a b. refl) (λ a b r. r.0) c (furthest_word u w half) (nearest_word u w half) s p q))
+    ap (λ f. not (keeps u limit f)) (shifted_is u (folded Count c xs) (folded Count c ys) w (sum_swap Count (λ a b. refl) (λ a b r. r.0) (furthest_word u w half) (nearest_word u w half) c s p q))
 turned_loses Max true limit c w small high i s p q h = second_told true limit w small high s h
 turned_loses Max false limit c w small high i {xs} s p q h =
     let y : max w 0 ≡ w = omega arith in
-    ap (λ f. not (keeps false limit f)) (empty_swap true (min w 0) 0 (max w 0) (omega arith) s ∙ ap (max (folded Max 0 xs)) y) ∙ comes_in false limit (folded Max 0 xs) w h
+    ap (λ f. not (keeps false limit f)) (empty_swap true (min w 0) (max w 0) 0 (omega arith) s ∙ ap (max (folded Max 0 xs)) y) ∙ comes_in false limit (folded Max 0 xs) w h
 turned_loses Min true limit c w small high i {xs} s p q h =
     let y : min w top ≡ w = omega arith in
-    ap (λ f. not (keeps true limit f)) (empty_swap false (max w top) top (min w top) (omega arith) s ∙ ap (min (folded Min top xs)) y) ∙ comes_in true limit (folded Min top xs) w h
+    ap (λ f. not (keeps true limit f)) (empty_swap false (max w top) (min w top) top (omega arith) s ∙ ap (min (folded Min top xs)) y) ∙ comes_in true limit (folded Min top xs) w h
 turned_loses Min false limit c w small high i s p q h = second_told false limit w small high s h

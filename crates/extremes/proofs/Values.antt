@@ -10,7 +10,7 @@ use lib.Dec.{eqb}
 use lib.IntN.{◌+ℤ◌, ◌*ℤ◌}
 use Rattle.numbers.specs.Extended.{Direction, up, down, at}
 use Rattle.numbers.specs.Words.{half, top, unword}
-use Rattle.numbers.proofs.Words.{cases, unbias_sum, unbias_product, unword_at, unword_word, unword_max, unword_min}
+use Rattle.numbers.proofs.Words.{Representable, cases, unbias_sum, unbias_product, unword_at, unword_word, unword_max, unword_min}
 use Rattle.meaning.specs.Meaning.{empty}
 use Rattle.meaning.specs.Meaning as m
 use Rattle.meaning.specs.Computed.{both, combine, further_of}
@@ -53,11 +53,11 @@ pub in_top : (k : Kind) (w : ℕ) → In k w → w ≤ top
 in_top k w = elim k as (λ k. In k w → w ≤ top) [ Sum ↦ λ h. omega arith | Product ↦ λ h. omega arith | Count ↦ λ h. omega arith | Max ↦ λ h. h | Min ↦ λ h. h ]
 
 pub in_empty : (k : Kind) → In k (empty_word k)
-in_empty k = elim k
+in_empty k = elim k as (λ k. In k (empty_word k))
     [ Sum ↦ (omega arith, omega arith) | Product ↦ (omega arith, omega arith) | Count ↦ (omega arith, omega arith) | Max ↦ omega arith | Min ↦ omega arith ]
 
 pub unword_empty : (k : Kind) → unword (empty_word k) ≡ empty (meant k)
-unword_empty k = unword_word (empty (meant k)) (elim k [ Sum ↦ omega arith | Product ↦ omega arith | Count ↦ omega arith | Max ↦ tt | Min ↦ tt ])
+unword_empty k = unword_word (empty (meant k)) (elim k as (λ k. Representable (empty (meant k))) [ Sum ↦ omega arith | Product ↦ omega arith | Count ↦ omega arith | Max ↦ tt | Min ↦ tt ])
 
 -- an entry contributes its weight or the empty value
 pub reach_one : (u : Bool) (empty w l x : ℕ) → (reach_word u empty w l x ≡ w) ⊎ (reach_word u empty w l x ≡ empty)

@@ -29,10 +29,10 @@ pub turn_size : (k : Kind) (e : Entry) → nat_abs (positive k e).weight ≡ nat
 turn_size k e = let t = turned_by_size e.weight e.literal in elim k as (λ k. nat_abs (positive k e).weight ≡ nat_abs e.weight) [ sum ↦ t | product ↦ refl | count ↦ t | maximum ↦ refl | minimum ↦ refl ]
 
 freed_by_size : (w l : ℤ) → nat_abs (freed_by w l) ≤ nat_abs w
-freed_by_size w l = elim l [ pos a ↦ omega arith | negsuc a ↦ omega arith ]
+freed_by_size w l = elim l as (λ l. nat_abs (freed_by w l) ≤ nat_abs w) [ pos a ↦ omega arith | negsuc a ↦ omega arith ]
 
 pub freed_size : (k : Kind) (e : Entry) → nat_abs (freed k e) ≤ nat_abs e.weight
-freed_size k e = let f = freed_by_size e.weight e.literal in elim k [ sum ↦ f | product ↦ omega arith | count ↦ f | maximum ↦ omega arith | minimum ↦ omega arith ]
+freed_size k e = let f = freed_by_size e.weight e.literal in elim k as (λ k. nat_abs (freed k e) ≤ nat_abs e.weight) [ sum ↦ f | product ↦ omega arith | count ↦ f | maximum ↦ omega arith | minimum ↦ omega arith ]
 
 -- ---- products
 

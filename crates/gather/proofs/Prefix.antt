@@ -100,4 +100,7 @@ nonzero_next (x ∷ es) e = ap (λ r. cond (same x.weight (pos 0)) r (x ∷ r)) 
   where
     go : (b z : Bool) → cond b (cond z (nonzero es) (nonzero es ++ (e ∷ []))) (x ∷ cond z (nonzero es) (nonzero es ++ (e ∷ [])))
         ≡ cond z (cond b (nonzero es) (x ∷ nonzero es)) (cond b (nonzero es) (x ∷ nonzero es) ++ (e ∷ []))
-    go b z = elim b [ true ↦ elim z [ true ↦ refl | false ↦ refl ] | false ↦ elim z [ true ↦ refl | false ↦ refl ] ]
+    go true true = refl
+    go true false = refl
+    go false true = refl
+    go false false = refl

@@ -13,7 +13,8 @@ use Rattle.meaning.proofs.Orders.{is_true, is_false}
 use Rattle.gather.specs.Inner.Gather.{after, slot}
 
 after_zero : (n : ℕ) → after n ≡ 0 → n ≡ 0
-after_zero n = elim n as (λ n. n ≡ 0) [ zero ↦ λ e. refl | suc n ↦ λ e. absurd (omega arith) ]
+after_zero zero e = refl
+after_zero (suc n) e = absurd (omega arith)
 
 -- a literal with no entry goes to the end
 pub put_new : (k : Kind) (xs : List Entry) (e : Entry) → slot xs e.literal ≡ 0 → put k xs e ≡ xs ++ (e ∷ [])

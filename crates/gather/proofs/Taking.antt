@@ -82,10 +82,12 @@ pub literal_is : {x : ℕ} (l : ℤ) → SFits w64 l → x ≡ literal_word (bac
 literal_is l f e = e ∙ ap literal_word (to_z-of_z w64 l f)
 
 mag_size : (w : ℤ) → mag w ≤ nat_abs w
-mag_size w = elim w [ pos n ↦ omega arith | negsuc n ↦ omega arith ]
+mag_size (pos n) = omega arith
+mag_size (negsuc n) = omega arith
 
 literal_word_range : (l : ℤ) → 1 ≤ atom l → atom l ≤ 4096 → (2 ≤ literal_word l) × (literal_word l ≤ 8193)
-literal_word_range l = elim l [ pos a ↦ λ h g. (omega arith, omega arith) | negsuc a ↦ λ h g. (omega arith, omega arith) ]
+literal_word_range (pos a) h g = (omega arith, omega arith)
+literal_word_range (negsuc a) h g = (omega arith, omega arith)
 
 module _ {part : List ℕ} {kind : ℕ} {ws ls : List ℤ} (m : Mergeable part kind ws ls) (i : ℕ) (h : i < length ws) where
   at_place : (P : Entry → Type 0) → Each P (paired ws ls) → P (record { weight = get_or ws i (pos 0); literal = get_or ls i (pos 0) })
@@ -148,7 +150,8 @@ unfolding freed_all
 none_freed k = elim k as (λ k. pos 0 ≡ constant k (members k [])) [ sum ↦ refl | product ↦ refl | count ↦ refl | maximum ↦ refl | minimum ↦ refl ]
 
 word_high : (l : ℤ) → atom l ≤ 4096 → literal_word l < 8194
-word_high l = elim l [ pos a ↦ λ h. omega arith | negsuc a ↦ λ h. omega arith ]
+word_high (pos a) h = omega arith
+word_high (negsuc a) h = omega arith
 
 pub gathered_none : (kind : ℕ) (es : List Entry) (part table : List ℕ) (seen : List Bool) → table ≡ replicate 8194 0 → seen ≡ replicate 8194 false → Gathered kind (take 0 es) part table seen 0 half
 unfolding slot some_entry

@@ -22,7 +22,8 @@ use Rattle.columns.specs.Indexed.{nth, negated_before}
 -- ---- two literals of one atom are opposite where their signs differ
 
 pub sign_low : (l : ℤ) → sign l ≤ 1
-sign_low l = elim l [ pos a ↦ omega arith | negsuc a ↦ omega arith ]
+sign_low (pos a) = omega arith
+sign_low (negsuc a) = omega arith
 
 opposite_true : (l m : ℤ) → atom l ≡ atom m → sign l + sign m ≡ 1 → same m (neg_ℤ l) ≡ true
 opposite_true l m e s = is_true (eq→same m (neg_ℤ l) (by l m e s))

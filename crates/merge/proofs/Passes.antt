@@ -20,10 +20,10 @@ use Rattle.merge.specs.Inner.Into.{Sifted, MergedInto}
 use Rattle.gather.proofs.Taking.{paired_length}
 
 kept_mixed : (k : Kind) (es : List Entry) → mixes k ≡ true → kept k es ≡ nonzero es
-kept_mixed k es = elim k as (λ k. kept k es ≡ nonzero es) [ sum ↦ λ h. refl | product ↦ λ h. cc | count ↦ λ h. refl | maximum ↦ λ h. cc | minimum ↦ λ h. cc ]
+kept_mixed k es = elim k as (λ k. mixes k ≡ true → kept k es ≡ nonzero es) [ sum ↦ λ h. refl | product ↦ λ h. cc | count ↦ λ h. refl | maximum ↦ λ h. cc | minimum ↦ λ h. cc ]
 
 kept_plain : (k : Kind) (es : List Entry) → mixes k ≡ false → kept k es ≡ es
-kept_plain k es = elim k [ sum ↦ λ h. cc | product ↦ λ h. refl | count ↦ λ h. cc | maximum ↦ λ h. refl | minimum ↦ λ h. refl ]
+kept_plain k es = elim k as (λ k. mixes k ≡ false → kept k es ≡ es) [ sum ↦ λ h. cc | product ↦ λ h. refl | count ↦ λ h. cc | maximum ↦ λ h. refl | minimum ↦ λ h. refl ]
 
 unmixed : (b : Bool) → b ≡ true → T (not b) → ⊥
 unmixed b e = T_false {b = not b} (rw e)

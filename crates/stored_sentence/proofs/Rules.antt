@@ -26,10 +26,11 @@ use Rattle.stored_sentence.proofs.Frames.{same_rule}
 
 -- the constant's word, by kind
 constant_held : (k : Kind) (x : ℕ) (es : List Entry) → (T (mixes k) → unbias x ≡ (merge k es).constant) → constant_of k x ≡ (merge k es).constant
-constant_held k x es = elim k as (λ k. T (mixes k)) [ sum ↦ λ h. h tt | product ↦ λ h. refl | count ↦ λ h. h tt | maximum ↦ λ h. refl | minimum ↦ λ h. refl ]
+constant_held k x es = elim k as (λ k. (T (mixes k) → unbias x ≡ (merge k es).constant) → constant_of k x ≡ (merge k es).constant) [ sum ↦ λ h. h tt | product ↦ λ h. refl | count ↦ λ h. h tt | maximum ↦ λ h. refl | minimum ↦ λ h. refl ]
 
 size_below : (z : ℤ) → nat_abs z ≤ 1000000000000000000 → mag z < half
-size_below z = elim z [ pos n ↦ λ h. omega arith | negsuc n ↦ λ h. omega arith ]
+size_below (pos n) h = omega arith
+size_below (negsuc n) h = omega arith
 
 -- ---- the fields of the tag and of the counts
 

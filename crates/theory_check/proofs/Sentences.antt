@@ -27,11 +27,11 @@ use Rattle.theory_check.proofs.Listing.{listed, entries_listed, each_by, by_each
 -- ---- the constant
 
 constant_parts : (k : Kind) (written x : ℕ) → ConstantOk k written x → Near (constant_of k x) (1000000000 * written) × (T (not (mixes k)) → x ≡ 0)
-constant_parts k written x = elim k
+constant_parts k written x = elim k as (λ k. ConstantOk k written x → Near (constant_of k x) (1000000000 * written) × (T (not (mixes k)) → x ≡ 0))
     [ sum ↦ λ h. (h, λ t. absurd t) | product ↦ λ h. (omega arith, λ t. h) | count ↦ λ h. (h, λ t. absurd t) | maximum ↦ λ h. (omega arith, λ t. h) | minimum ↦ λ h. (omega arith, λ t. h) ]
 
 constant_whole : (k : Kind) (written x : ℕ) → Near (constant_of k x) (1000000000 * written) → (T (not (mixes k)) → x ≡ 0) → ConstantOk k written x
-constant_whole k written x = elim k as (λ k. ConstantOk k written x) [ sum ↦ λ h z. h | product ↦ λ h z. z tt | count ↦ λ h z. h | maximum ↦ λ h z. z tt | minimum ↦ λ h z. z tt ]
+constant_whole k written x = elim k as (λ k. Near (constant_of k x) (1000000000 * written) → (T (not (mixes k)) → x ≡ 0) → ConstantOk k written x) [ sum ↦ λ h z. h | product ↦ λ h z. z tt | count ↦ λ h z. h | maximum ↦ λ h z. z tt | minimum ↦ λ h z. z tt ]
 
 -- ---- the sentence at b, its merged entries inside the area
 

@@ -1,11 +1,11 @@
 -- As many as were found so far are the chosen literals of the positions passed (`Chosen`).
-use mathlib.Core.Logic.{⊎_elim}
 use mathlib.Core.Path.{◌≡◌, sym, ◌∙◌, ap}
 use Prim.Native.Nat.{◌-◌, ◌≤◌}
 use native.Mathlib.Omega.{arith}
 use lib.ListN.{length}
 use Rattle.chosen.specs.Inner.Chosen.{chosen_literals}
 use Rattle.chosen.proofs.Chosen.{none_chosen, counted_more, counted_same}
+use Rattle.chosen.proofs.count_chosen.Lts.{then-is_chosen, else-is_chosen}
 use Rattle.chosen.proofs.count_chosen.Statement.{statement}
 use Rattle.chosen.proofs.count_chosen.Tie as tie
 
@@ -19,23 +19,23 @@ loop_again : tie.Need-loop-i-preserved invariant-loop-i decreases-loop-i
 loop_again c = let s = c.before.before.before.before.before.before in
     let told = sym c.before.is_chosen.ensures in (
       omega arith,
-      ⊎_elim (λ y. omega (arith, y.1)) (λ y. omega (arith, y.1)) c.if-is_chosen.branch,
-      ⊎_elim
-          (λ y. omega (
+      elim c.if-is_chosen.branch [ then-is_chosen y ↦ omega (arith, y.found-is) | else-is_chosen y ↦ omega (arith, y.found-is) ],
+      elim c.if-is_chosen.branch [
+        | then-is_chosen y ↦ omega (
             arith,
-            y.1,
+            y.found-is,
             c.before.before.before.loop-i.invariant.2,
             counted_more s.args.area.now s.args.n s.args.marks.now
-                c.before.before.before.loop-i.i (told ∙ y.0.taken),
-          ))
-          (λ y. omega (
+                c.before.before.before.loop-i.i (told ∙ y.if-is_chosen.true),
+          )
+        | else-is_chosen y ↦ omega (
             arith,
-            y.1,
+            y.found-is,
             c.before.before.before.loop-i.invariant.2,
             counted_same s.args.area.now s.args.n s.args.marks.now
-                c.before.before.before.loop-i.i (told ∙ y.0.left),
-          ))
-          c.if-is_chosen.branch,
+                c.before.before.before.loop-i.i (told ∙ y.if-is_chosen.false),
+          )
+      ],
     )
 
 pub count_chosen_spec : {M : Type 1} → statement M

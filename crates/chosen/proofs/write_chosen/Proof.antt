@@ -1,5 +1,4 @@
 -- The chosen literals of the positions passed stand at the front of the list, and the rest of it is as it was (`Chosen`).
-use mathlib.Core.Logic.{⊎_elim}
 use mathlib.Core.Path.{◌≡◌, sym, ◌∙◌, ap}
 use Prim.Native.Nat.{ℕ, ◌+◌, ◌-◌, ◌≤◌}
 use native.Mathlib.Omega.{arith}
@@ -10,6 +9,7 @@ use borrow.Author.Rules.{rules}
 use Rattle.numbers.specs.Words.{literal_of}
 use Rattle.chosen.specs.Inner.Chosen.{chosen_literals}
 use Rattle.chosen.proofs.Chosen.{none_chosen, counted_more, counted_same, never_fewer, Written, none_written, same_written, written_length, one_written}
+use Rattle.chosen.proofs.write_chosen.Lts.{then-is_chosen, else-is_chosen}
 use Rattle.chosen.proofs.write_chosen.Statement.{statement}
 use Rattle.chosen.proofs.write_chosen.Tie as tie
 
@@ -52,18 +52,18 @@ loop_again c = let s = c.before.before.before.before.before.before in
     let x = c.before.before.before.loop-i in
     let told = sym c.before.is_chosen.ensures in (
       omega arith,
-      ⊎_elim
-          (λ y. omega (arith, y.4, x.invariant.1, counted_more w n m x.i (told ∙ y.0.taken)))
-          (λ y. omega (arith, y.2, x.invariant.1, counted_same w n m x.i (told ∙ y.0.left)))
-          c.if-is_chosen.branch,
-      ⊎_elim
-          (λ y.
-          let e = told ∙ y.0.taken in
+      elim c.if-is_chosen.branch [
+        | then-is_chosen y ↦ omega (arith, y.at-is, x.invariant.1, counted_more w n m x.i (told ∙ y.if-is_chosen.true))
+        | else-is_chosen y ↦ omega (arith, y.at-is, x.invariant.1, counted_same w n m x.i (told ∙ y.if-is_chosen.false))
+      ],
+      elim c.if-is_chosen.branch [
+        | then-is_chosen y ↦
+          let e = told ∙ y.if-is_chosen.true in
           let more = never_fewer w n m (x.i + 1) s.args.rows (omega arith) in
-          rw y.3 (one_written w n m x.i _ _ x.invariant.2 e (omega (arith, s.requires.1, more, counted_more w n m x.i e)) x.at x.invariant.1 _
-          (to_z-of_z w64 y.2.result (search rules) ∙ y.2.ensures ∙ ap {A = ℕ} literal_of y.1.ensures)))
-          (λ y. rw y.1 (same_written w n m x.i _ _ (told ∙ y.0.left) x.invariant.2))
-          c.if-is_chosen.branch,
+          rw y.list-is (one_written w n m x.i _ _ x.invariant.2 e (omega (arith, s.requires.1, more, counted_more w n m x.i e)) x.at x.invariant.1 _
+          (to_z-of_z w64 y.literal_of.result (search rules) ∙ y.literal_of.ensures ∙ ap {A = ℕ} literal_of y.literal_at.ensures))
+        | else-is_chosen y ↦ rw y.list-is (same_written w n m x.i _ _ (told ∙ y.if-is_chosen.false) x.invariant.2)
+      ],
     )
 
 pub write_chosen_spec : {M : Type 1} → statement M

@@ -25,7 +25,7 @@ told c e = subst (Told c.before.before.before.before.before.before) e
     (rw (c.before.before.before.before.atoms_of-n.ensures, c.before.before.before.sentences_of-sentences.ensures) at c.in_conflict.ensures)
 
 clashing : (c : tie.Else-not-in_conflict) → Told c.before.before.before.before.before.before.before true
-clashing c = told c.before (not-false c.before.in_conflict.result c.if-not-in_conflict.false)
+clashing c = told c.before (not-false c.before.in_conflict.result c.if-not-in_conflict.false-raw)
 
 high : (c : tie.Else-k-sentences) → let s = c.before.before.before.before.before in
     s.args.sentence.0 ≤ sentences_of s.args.area.now
@@ -76,7 +76,7 @@ conflict_whole_spec = tie.close (tie.spec
     (comparable s.requires.0 s.requires.1 (s.args.sentence.0 - 1) (omega (arith, high c))))
     (λ c. let s = c.before.before.before.before.before.before.before in
     quiet_refused s.requires.0 s.requires.1 s.args.sentence.0 (omega arith) (high c.before.before) _
-    (told c.before (not-true c.before.in_conflict.result c.if-not-in_conflict.true)))
+    (told c.before (not-true c.before.in_conflict.result c.if-not-in_conflict.true-raw)))
     (λ c κs. search rules)
     (λ c κs. let s = c.before.before.before.before.before.before.before.before in
     rw (

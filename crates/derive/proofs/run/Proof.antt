@@ -18,14 +18,14 @@ invariant-loop-area area₀ n count len level length₀ area length =
 abbrev decreases-loop-area : tie.decreases-loop-area
 decreases-loop-area area₀ n count len level length₀ area length = n - length
 
-sizes : (c : tie.In-Forced invariant-loop-area decreases-loop-area) → Sizes c.before.before.before.before.before.args.level
+sizes : (c : tie.In-Forced invariant-loop-area decreases-loop-area) → Sizes c.before.before.before.before.args.level
     c.before.found-in-Forced-1.given.0.0 c.before.found-in-Forced-1.given.0.1.1.0
 sizes c = let s = c.before.before.before.before.before.before.before in
     forced_sizes (c.before.before.before.before.before.loop-area.invariant.1 s.requires.0 s.requires.1).searchable c.before.before.before.find-found.ensures
     c.before.found-in-Forced-1.given.1
 
 loop_again : tie.Need-loop-area-preserved invariant-loop-area decreases-loop-area
-loop_again c = let s = c.before.before.before.before.before.before.before.before.before in
+loop_again c = let s = c.before.before.before.before.before.before.before.before in
     let p = s.requires in (
       (reached_next (c.before.before.before.before.before.before.before.before.before.loop-area.invariant.1 p.0 p.1)
           c.before.before.before.before.before.before.before.find-found.ensures c.before.before.before.before.before.found-in-Forced-1.given.1 _

@@ -36,7 +36,7 @@ tells c = rw (
 ) at c.entry_ok.ensures
 
 told : (c : tie.Else-not-entry_ok invariant-loop-i decreases-loop-i) → let s = (start c.before).args in EntryOk s.area.now s.n s.base s.at (at_loop c.before).loop-i.i
-told c = granted (tells c.before) c.if-not-entry_ok.false
+told c = granted (tells c.before) c.if-not-entry_ok.false-raw
 
 -- so its atom has a place in the table
 below : (c : tie.Else-not-entry_ok invariant-loop-i decreases-loop-i) → let s = (start c.before).args in atom_at s.area.now s.at (at_loop c.before).loop-i.i < 4097
@@ -52,25 +52,25 @@ pub entries_ok_spec : {M : Type 1} → statement M
 entries_ok_spec = tie.close (tie.spec
     invariant-loop-i decreases-loop-i (λ c. search rules) (λ c κs. search rules) (λ c κs. search rules) (λ c κs. search rules) (λ c. (omega arith, search none_passed))
     (λ c κs. search rules) (λ c κs. search rules) (λ c κs. search rules) (λ c. search rules)
-    (λ c. entry_broken _ _ _ _ _ _ _ _ (at_loop c.before).loop-i.inv.1 (omega arith) (denied (tells c.before) c.if-not-entry_ok.true))
+    (λ c. entry_broken _ _ _ _ _ _ _ _ (at_loop c.before).loop-i.invariant.1 (omega arith) (denied (tells c.before) c.if-not-entry_ok.true-raw))
     (λ c. omega (arith, below c)) (λ c. omega (arith, below c.before)) (λ c. search rules)
-    (λ c. stamped_twice _ _ _ _ _ _ _ _ (at_loop c.before.before.before).loop-i.inv.1 (below c.before.before) (omega arith)
+    (λ c. stamped_twice _ _ _ _ _ _ _ _ (at_loop c.before.before.before).loop-i.invariant.1 (below c.before.before) (omega arith)
     (rw c.before.before.before.before.literal_in-literal.ensures at c.if-seen-a.true))
     (λ c. omega (arith, below c.before.before)) (λ c. omega (arith, below c.before.before))
     (λ c κs. (
       search,
       search,
       λ q. rw c.before.before.before.before.before.weight_in-weight.ensures
-          (search (weight_above, sym (start c.before.before.before).pre.1 ∙ q, told c.before.before)),
+          (search (weight_above, sym (start c.before.before.before).requires.1 ∙ q, told c.before.before)),
     ))
     (λ c. simp length-set (omega arith))
     (λ c. let e = c.before.before.before.before.before.before.literal_in-literal.ensures in
-    rw e (product_past _ _ _ _ _ _ _ _ (at_loop c.before.before.before.before.before).loop-i.inv.1 _ _ (omega arith) (below c.before.before.before.before)
+    rw e (product_past _ _ _ _ _ _ _ _ (at_loop c.before.before.before.before.before).loop-i.invariant.1 _ _ (omega arith) (below c.before.before.before.before)
     (rw e at c.before.before.if-seen-a.false) (grew c.before) (omega arith) c.if-product-eq0.true))
     (λ c. search rules) (λ c. search rules)
     (λ c. let e = c.before.before.before.before.before.before.literal_in-literal.ensures in (
       omega arith,
-      rw e (one_passed _ _ _ _ _ _ _ _ (at_loop c.before.before.before.before.before).loop-i.inv.1 _ _ (omega arith) (below c.before.before.before.before)
+      rw e (one_passed _ _ _ _ _ _ _ _ (at_loop c.before.before.before.before.before).loop-i.invariant.1 _ _ (omega arith) (below c.before.before.before.before)
           (rw e at c.before.before.if-seen-a.false) (grew c.before) (told c.before.before.before.before) c.if-product-eq0.false),
     ))
     (λ c. search rules) (λ c. all_passed _ _ _ _ _ _ _ _ c.before.loop-i.invariant.1 (omega arith)))

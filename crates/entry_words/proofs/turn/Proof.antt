@@ -8,13 +8,13 @@ use Rattle.entry_words.proofs.turn.Statement.{statement}
 use Rattle.entry_words.proofs.turn.Tie as tie
 
 returns : tie.Need-returns-then-not-mixing
-returns c = turned_plain _ _ _ (sym c.before.mixing.ensures ∙ not-true _ c.if-not-mixing.true) c.before.before.requires.1 c.before.before.requires.2
+returns c = turned_plain _ _ _ (sym c.before.mixing.ensures ∙ c.if-not-mixing.true) c.before.before.requires.1 c.before.before.requires.2
 
 returns_2 : tie.Need-returns-then-l-eq0
-returns_2 c = turned_even _ _ _ (sym c.before.before.mixing.ensures ∙ not-false _ c.before.if-not-mixing.false) c.if-l-eq0.true c.before.before.before.requires.1 c.before.before.before.requires.2
+returns_2 c = turned_even _ _ _ (sym c.before.before.mixing.ensures ∙ c.before.if-not-mixing.false) c.if-l-eq0.true c.before.before.before.requires.1 c.before.before.before.requires.2
 
 returns_3 : tie.Need-returns
-returns_3 c = turned_odd _ _ _ (sym c.before.before.mixing.ensures ∙ not-false _ c.before.if-not-mixing.false) (omega arith)
+returns_3 c = turned_odd _ _ _ (sym c.before.before.mixing.ensures ∙ c.before.if-not-mixing.false) (omega arith)
     c.before.before.before.requires.1 c.before.before.before.requires.2 c.before.before.before.requires.0
 
 pub turn_spec : {M : Type 1} → statement M

@@ -31,7 +31,7 @@ look_spec = tie.close (tie.spec
     let p = s.before.before.before.before.before.requires in
     let value = rw s.before.before.before.head_at-head.ensures at s.value_at-v.ensures in
     rw (c.of_body.ensures, s.before.limit_at-limit.ensures, c.before.before.before.before.entry_at-start.ensures, c.before.before.before.merged_at-merged.ensures)
-    (known_fixed p.0 p.1 k.kind_of.result (k.kind_of.ensures ∙ ap kind_of k.before.kind_at.ensures) true (λ z. k.before.before.if-v-eq0.false (value ∙ z))
+    (known_fixed p.0 p.1 k.kind_of-kind.result (k.kind_of-kind.ensures ∙ ap kind_of k.before.kind_at.ensures) true (λ z. k.before.before.if-v-eq0.false (value ∙ z))
     (sym (rw (s.before.before.upper_at-upper.ensures, value) at c.before.before.upwards.ensures) ∙ c.before.if-upwards.true)))
     (λ c κs. search entries_read)
     (λ c. let k = c.before.before.before.before.before in
@@ -39,5 +39,5 @@ look_spec = tie.close (tie.spec
     let p = s.before.before.before.before.before.requires in
     let value = rw s.before.before.before.head_at-head.ensures at s.value_at-v.ensures in
     rw (c.of_body-2.ensures, s.before.limit_at-limit.ensures, c.before.before.before.before.entry_at-start.ensures, c.before.before.before.merged_at-merged.ensures)
-    (known_fixed p.0 p.1 k.kind_of.result (k.kind_of.ensures ∙ ap kind_of k.before.kind_at.ensures) false (λ z. k.before.before.if-v-eq0.false (value ∙ z))
+    (known_fixed p.0 p.1 k.kind_of-kind.result (k.kind_of-kind.ensures ∙ ap kind_of k.before.kind_at.ensures) false (λ z. k.before.before.if-v-eq0.false (value ∙ z))
     (sym (rw (s.before.before.upper_at-upper.ensures, value) at c.before.before.upwards.ensures) ∙ c.before.if-upwards.false))))

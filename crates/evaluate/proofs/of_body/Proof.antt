@@ -15,7 +15,7 @@ returns_3 c =
     let s = c.before.before.before.before.before.before in
     let second = rw c.before.before.second.ensures at c.before.keep-then-leaves_second.ensures in
     rw (
-      held s.before.before.keep.ensures s.before.if-not-keep.false,
+      held s.before.before.keep.ensures s.before.if-not-keep.false-raw,
       sym s.keep-2.ensures ∙ c.before.before.before.before.before.if-keep.false,
       sym c.before.before.before.before.leaves_second.ensures ∙ c.before.before.before.if-leaves_second.true,
       sym second ∙ c.if-keep-2.true,
@@ -26,7 +26,7 @@ returns_4 c =
     let s = c.before.before.before.before.before.before in
     let second = rw c.before.before.second.ensures at c.before.keep-then-leaves_second.ensures in
     rw (
-      held s.before.before.keep.ensures s.before.if-not-keep.false,
+      held s.before.before.keep.ensures s.before.if-not-keep.false-raw,
       sym s.keep-2.ensures ∙ c.before.before.before.before.before.if-keep.false,
       sym c.before.before.before.before.leaves_second.ensures ∙ c.before.before.before.if-leaves_second.true,
       sym second ∙ c.if-keep-2.false,
@@ -34,8 +34,8 @@ returns_4 c =
 
 pub of_body_spec : {M : Type 1} → statement M
 of_body_spec = tie.close (tie.spec
-    (λ c κs. search rules) (λ c. rw (sym c.before.keep.ensures ∙ not-true _ c.if-not-keep.true)) (λ c κs. search rules)
-    (λ c. rw (held c.before.before.before.keep.ensures c.before.before.if-not-keep.false, sym c.before.keep-2.ensures ∙ c.if-keep.true))
+    (λ c κs. search rules) (λ c. rw (sym c.before.keep.ensures ∙ not-true _ c.if-not-keep.true-raw)) (λ c κs. search rules)
+    (λ c. rw (held c.before.before.before.keep.ensures c.before.before.if-not-keep.false-raw, sym c.before.keep-2.ensures ∙ c.if-keep.true))
     (λ c κs. search rules) (λ c κs. search rules) (λ c κs. search rules) returns_3 returns_4
     (λ c. let s = c.before.before.before in
-    rw (held s.before.before.keep.ensures s.before.if-not-keep.false, sym s.keep-2.ensures ∙ c.before.before.if-keep.false, sym c.before.leaves_second.ensures ∙ c.if-leaves_second.false)))
+    rw (held s.before.before.keep.ensures s.before.if-not-keep.false-raw, sym s.keep-2.ensures ∙ c.before.before.if-keep.false, sym c.before.leaves_second.ensures ∙ c.if-leaves_second.false)))

@@ -1,7 +1,6 @@
 -- `sentence::second` meets its contract. The loop's invariant: from `best` and `next` on, the contributions from entry i on leave the whole
 -- second best.
 use mathlib.Core.Path.{◌≡◌, sym, ap, ◌∙◌}
-use mathlib.Core.Logic.{⊎_elim}
 use Prim.Native.Nat.{◌-◌, ◌≤◌}
 use native.Mathlib.Omega.{arith}
 use borrow.Author.Rules.{rules}
@@ -10,6 +9,7 @@ use Rattle.extremes.proofs.Loops.{entry_inside}
 use Rattle.evaluate.specs.Inner.Words.{best_kind}
 use Rattle.evaluate.proofs.Loops.{Seconds, seconds_start, seconds_next, seconds_end}
 use Rattle.evaluate.proofs.second.Statement.{statement}
+use Rattle.evaluate.proofs.second.Lts.{then-up, else-up}
 use Rattle.evaluate.proofs.second.Tie as tie
 
 abbrev invariant-loop-i : tie.invariant-loop-i
@@ -22,10 +22,10 @@ pub second_spec : {M : Type 1} → statement M
 second_spec = tie.close (tie.spec
     invariant-loop-i decreases-loop-i (λ c κs. search rules) (λ c κs. search rules)
     (λ c. let e : c.if-up.none ≡ empty_word (best_kind c.before.before.args.up) =
-    ⊎_elim
-    (λ x. x.2 ∙ x.1.ensures ∙ ap (λ u. empty_word (best_kind u)) (sym x.0.taken))
-    (λ x. x.2 ∙ x.1.ensures ∙ ap (λ u. empty_word (best_kind u)) (sym x.0.left))
-    c.if-up.branch in
+    elim c.if-up.branch [
+      then-up x ↦ x.none-is ∙ x.empty-none.ensures ∙ ap (λ u. empty_word (best_kind u)) (sym x.if-up.true)
+    | else-up x ↦ x.none-is ∙ x.empty-none-else-up.ensures ∙ ap (λ u. empty_word (best_kind u)) (sym x.if-up.false)
+    ] in
     (omega arith, seconds_start e, e))
     (λ c κs. search entry_inside) (λ c κs. search rules) (λ c κs. search rules) (λ c κs. search rules) (λ c κs. search rules) (λ c. search rules)
     (λ c. search rules)

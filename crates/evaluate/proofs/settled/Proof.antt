@@ -14,20 +14,20 @@ settled_spec = tie.close (tie.spec
     (λ c. λ e.
     let s = c.before.before.before.before in
     let value = rw c.before.before.before.head_at-head.ensures at c.before.before.value_at-v.ensures in
-    settled_open s.before.before.requires.0 s.before.before.requires.1 (sym value ∙ c.before.if-v-eq0.true) (rw s.limit_at-limit.ensures at c.if-sure.false) (rw s.limit_at-limit.ensures at e))
+    settled_open s.before.before.requires.0 s.before.before.requires.1 (sym value ∙ c.before.if-v-eq0.true) (rw s.limit_at-limit.ensures at c.if-sure.false-raw) (rw s.limit_at-limit.ensures at e))
     (λ c κs. search rules) (λ c κs. search rules)
     (λ c. λ e.
     let s = c.before.before.before.before.before.before.before in
     let v = c.before.before.before.before.before in
-    let value = rw v.before.head_at-head.ensures at v.value_at.ensures in
+    let value = rw v.before.head_at-head.ensures at v.value_at-v.ensures in
     settled_fixed s.before.before.requires.0 s.before.before.requires.1 true (λ z. c.before.before.before.before.if-v-eq0.false (value ∙ z))
     (sym (rw (c.before.before.before.upper_at.ensures, value) at c.before.before.upwards.ensures) ∙ c.before.if-upwards.true)
-    (rw s.limit_at-limit.ensures at e) (rw s.limit_at-limit.ensures at c.if-sure-2.true))
+    (rw s.limit_at-limit.ensures at e) (rw s.limit_at-limit.ensures at c.if-sure-2.true-raw))
     (λ c. λ e. absurd (true≢false (sym e))) (λ c. λ e. absurd (true≢false (sym e)))
     (λ c. λ e.
     let s = c.before.before.before.before.before.before.before in
     let v = c.before.before.before.before.before in
-    let value = rw v.before.head_at-head.ensures at v.value_at.ensures in
+    let value = rw v.before.head_at-head.ensures at v.value_at-v.ensures in
     settled_fixed s.before.before.requires.0 s.before.before.requires.1 false (λ z. c.before.before.before.before.if-v-eq0.false (value ∙ z))
     (sym (rw (c.before.before.before.upper_at.ensures, value) at c.before.before.upwards.ensures) ∙ c.before.if-upwards.false)
-    (ap not (rw s.limit_at-limit.ensures at c.if-sure-3.false)) (rw s.limit_at-limit.ensures at e)))
+    (ap not (rw s.limit_at-limit.ensures at c.if-sure-3.false-raw)) (rw s.limit_at-limit.ensures at e)))

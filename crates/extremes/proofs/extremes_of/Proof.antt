@@ -15,7 +15,7 @@ returns c =
     (rw (
       c.before.merged_at-merged.ensures,
       c.before.before.entry_at-start.ensures,
-      c.before.before.before.start_of_lem.ensures,
+      c.before.before.before.start_of-first.ensures,
       c.before.before.before.before.constant_at.ensures,
     ) at c.folds_by_kind.ensures)
 
@@ -24,6 +24,6 @@ extremes_of_spec = tie.close (tie.spec
     (λ c κs. search rules) (λ c κs. search rules) (λ c κs. search rules) (λ c κs. search rules) (λ c κs. search rules) (λ c κs. search rules)
     (λ c κs. let s = c.before.before.before.before in
     let e = s.kind_of-kind.ensures ∙ ap kind_of s.before.kind_at.ensures in
-    rw (c.merged_at-merged.ensures, c.before.entry_at-start.ensures, c.before.before.start_of_lem.ensures, c.before.before.before.constant_at.ensures)
+    rw (c.merged_at-merged.ensures, c.before.entry_at-start.ensures, c.before.before.start_of-first.ensures, c.before.before.before.constant_at.ensures)
     (entries_at s.kind_of-kind.result s.before.before.before.requires e, rooms_at s.kind_of-kind.result s.before.before.before.requires e))
     returns)

@@ -7,4 +7,4 @@ use Rattle.extremes.proofs.kind_of.Tie as tie
 pub kind_of_spec : {M : Type 1} → statement M
 kind_of_spec = tie.close (tie.spec
     (λ c. search rules) (λ c. search rules) (λ c. search rules) (λ c. search rules)
-    (λ c. others_minimum _ c.in_default.rest.0.0.0.1 c.in_default.rest.0.0.1 c.in_default.rest.0.1 c.in_default.rest.1))
+    (λ c. others_minimum _ c.in_default.in_default-own.rest.0.0.0.1 c.in_default.in_default-own.rest.0.0.1 c.in_default.in_default-own.rest.0.1 c.in_default.in_default-own.rest.1))

@@ -75,7 +75,7 @@ add_requires c κs = let s = c.before.before.before in
 loop_again : tie.Need-loop-i-preserved invariant-loop-i decreases-loop-i
 loop_again c = let s = c.before.before.before.before.before.before in
     let l = s.before.before.before.before.before.loop-i in
-    (omega arith, c.before.before.add-m.auto.0 ∙ l.invariant.1, rw (next_taken s) (c.before.before.add-m.ensures.next (earlier s) l.invariant.2 (may_take s)))
+    (omega arith, c.before.before.add-m.auto.part ∙ l.invariant.1, rw (next_taken s) (c.before.before.add-m.ensures.next (earlier s) l.invariant.2 (may_take s)))
 
 returns : tie.Need-returns invariant-loop-i decreases-loop-i
 returns c = let ws = c.before.before.before.args.weights.now in

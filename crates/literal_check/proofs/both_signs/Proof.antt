@@ -51,7 +51,7 @@ marked c = let s = c.before.before.before.before in
     c.mark-m.ensures ∙ of_element (λ z. 1 + sign z) (nth s.before.args.literals.now s.loop-i.i)
     (record { sfits = c.before.before.l-1.given })
 
-sub_if1 : tie.Need-overflow-sub-if1 invariant-loop-i decreases-loop-i
+sub_if1 : tie.Need-overflow_sub-m invariant-loop-i decreases-loop-i
 sub_if1 c = omega (arith, marked c, sign_low (nth c.before.before.before.before.before.args.literals.now c.before.before.before.before.loop-i.i))
 
 returns : tie.Need-returns-then-before-m invariant-loop-i decreases-loop-i

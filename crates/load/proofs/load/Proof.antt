@@ -11,7 +11,7 @@ use Rattle.load.proofs.load.Tie as tie
 
 returns : tie.Need-returns
 returns c = let s = c.before.before.before.before in
-    subst (λ (l : Limits). Loads l s.before.before.before.before.before.before.args.area.now c.before.before.load_within.new.0
+    subst (λ (l : Limits). Loads l s.before.before.before.before.before.before.args.area.now c.before.before.load_within.new.area
     s.before.before.before.before.before.before.args.atoms.0 (seven_columns s.before.before.before.before.before.before.args.heads.now
     s.before.before.before.before.before.before.args.kinds.now s.before.before.before.before.before.before.args.sides.now
     s.before.before.before.before.before.before.args.bounds.now s.before.before.before.before.before.before.args.counts.now

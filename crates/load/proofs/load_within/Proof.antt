@@ -29,7 +29,7 @@ refresh_requires : tie.Need-refresh-requires
 refresh_requires c κs =
     let b = c.before.before.before.before.before.before.before.before.before.before.before.before.before in (
       b.args.lim,
-      refreshable b.args.lim b.args.area.now c.before.before.before.before.store_all.new.0 b.args.atoms.0
+      refreshable b.args.lim b.args.area.now c.before.before.before.before.store_all.new.area b.args.atoms.0
           (cols b) b.requires (ok c.before.before.before.before.before.before) c.before.before.before.before.store_all.ensures _ refl,
     )
 
@@ -42,8 +42,8 @@ returns_2 c =
     record {
       answer_is = told.before.refusal-answer.ensures;
       refused = λ d. absurd (d told.if-code-ne0.false);
-      accepted = λ _. loaded b.args.lim b.args.area.now stored.new.0 b.args.atoms.0 (cols b) b.requires (ok told) stored.ensures
-          renewed.new.0 _ (λ a h. get_or-replicate 4097 a 1 0 (omega arith)) renewed.ensures;
+      accepted = λ _. loaded b.args.lim b.args.area.now stored.new.area b.args.atoms.0 (cols b) b.requires (ok told) stored.ensures
+          renewed.new.area _ (λ a h. get_or-replicate 4097 a 1 0 (omega arith)) renewed.ensures;
     }
 
 pub load_within_spec : {M : Type 1} → statement M

@@ -20,7 +20,7 @@ fine : (c : tie.Else-not-adds_up) → let s = c.before.before.before.before.befo
 fine c = let s = c.before.before.before.before.before.before.before.before.before.before in
     in_shape s.args.lim s.args.atoms (cols s) (sym c.before.before.before.before.before.past_limits.ensures ∙
     c.before.before.before.before.if-past_limits.false) (sym c.before.before.before.unequal.ensures ∙ c.before.before.if-unequal.false)
-    (sym c.before.adds_up.ensures ∙ not-false _ c.if-not-adds_up.false)
+    (sym c.before.adds_up.ensures ∙ c.if-not-adds_up.false)
 
 -- the columns belong together, so that the need does not wrap
 fit : (c : tie.Else-not-adds_up) → let s = c.before.before.before.before.before.before.before.before.before.before in
@@ -40,7 +40,7 @@ returns_2 c = let s = c.before.before.before.before.before.before.before.before 
 returns_3 : tie.Need-returns-then-not-adds_up
 returns_3 c = let s = c.before.before.before.before.before.before.before.before.before.before in
     answer_1 s.args.lim s.args.words s.args.atoms (cols s) (shape_sum s.args.lim s.args.atoms (cols s)
-    (sym c.before.adds_up.ensures ∙ not-true _ c.if-not-adds_up.true))
+    (sym c.before.adds_up.ensures ∙ c.if-not-adds_up.true))
 
 returns_4 : tie.Need-returns-then-words-atoms
 returns_4 c = let s = c.before.before.before.before.before.before.before.before.before.before.before in

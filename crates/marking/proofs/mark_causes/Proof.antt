@@ -1,10 +1,10 @@
 -- Each place's cause is marked, or it has none below the limit (`Naming`).
-use mathlib.Core.Logic.{⊎_elim}
 use Prim.Native.Nat.{◌+◌, ◌-◌, ◌≤◌}
 use native.Mathlib.Omega.{arith}
 use Rattle.area.specs.Layout.{record_at, merged_at}
 use Rattle.extremes.specs.Inner.Stored.{EvaluateReady}
 use Rattle.marking.proofs.Naming.{Naming, none_named, all_named, cause_room, nothing_named, cause_named}
+use Rattle.marking.proofs.mark_causes.Lts.{then-p-limit, else-p-limit}
 use Rattle.marking.proofs.mark_causes.Statement.{statement}
 use Rattle.marking.proofs.mark_causes.Tie as tie
 
@@ -35,10 +35,12 @@ loop_again c = let q = c.before.before.before.before.before.before.before in
     let more : c.before.before.before.loop-place.place ≤ merged_at q.args.area.now (record_at q.args.n s) = omega
     (arith, c.before.before.before.before.merged_at-merged.ensures, c.before.before.loop-place-test.true) in (
       omega arith,
-      ⊎_elim
-          (λ y. rw y.1 (cause_named _ _ _ s _ _ q.requires.0 q.requires.1 _ _ c.before.before.before.loop-place.invariant.1 _ told more y.0.taken))
-          (λ y. rw y.1 (nothing_named _ _ _ s _ _ q.requires.0 q.requires.1 _ _ c.before.before.before.loop-place.invariant.1 _ told more y.0.left))
-          c.if-p-limit.branch,
+      elim c.if-p-limit.branch [
+        | then-p-limit y ↦ rw y.marks-is (cause_named _ _ _ s _ _ q.requires.0 q.requires.1 _ _ c.before.before.before.loop-place.invariant.1 _ told
+          more y.if-p-limit.true)
+        | else-p-limit y ↦ rw y.marks-is (nothing_named _ _ _ s _ _ q.requires.0 q.requires.1 _ _ c.before.before.before.loop-place.invariant.1 _ told
+          more y.if-p-limit.false)
+      ],
     )
 
 pub mark_causes_spec : {M : Type 1} → statement M

@@ -1,10 +1,10 @@
 -- Those found before a place and those from it on make up all (`Loops`).
-use mathlib.Core.Logic.{⊎_elim}
 use Prim.Native.Nat.{◌+◌, ◌-◌, ◌≤◌}
 use native.Mathlib.Omega.{arith}
 use borrow.Author.Rules.{rules}
 use Rattle.area.specs.Layout.{merged_at}
 use Rattle.negations.proofs.Loops.{Counted, counted_more, counted_same, counted_ends}
+use Rattle.negations.proofs.count_causes.Lts.{then-cause_at-limit, else-cause_at-limit}
 use Rattle.negations.proofs.count_causes.Statement.{statement}
 use Rattle.negations.proofs.count_causes.Tie as tie
 
@@ -20,13 +20,13 @@ loop_again c = let s = c.before.before.before.before.before.before in
     let more : c.before.before.before.loop-place.place ≤ merged_at s.args.area.now s.args.base = omega
     (arith, c.before.before.before.before.merged_at-merged.ensures, c.before.before.loop-place-test.true) in (
       omega arith,
-      ⊎_elim (λ x. omega arith) (λ x. omega arith) c.if-cause_at-limit.branch,
-      ⊎_elim
-          (λ x. rw x.1 (counted_more s.requires c.before.before.before.loop-place.place more told c.before.before.before.loop-place.found x.0.taken
-          c.before.before.before.loop-place.invariant.2))
-          (λ x. rw x.1 (counted_same s.requires c.before.before.before.loop-place.place more told c.before.before.before.loop-place.found x.0.left
-          c.before.before.before.loop-place.invariant.2))
-          c.if-cause_at-limit.branch,
+      elim c.if-cause_at-limit.branch [ then-cause_at-limit x ↦ omega arith | else-cause_at-limit x ↦ omega arith ],
+      elim c.if-cause_at-limit.branch [
+        | then-cause_at-limit x ↦ rw x.found-is (counted_more s.requires c.before.before.before.loop-place.place more told
+          c.before.before.before.loop-place.found x.if-cause_at-limit.true c.before.before.before.loop-place.invariant.2)
+        | else-cause_at-limit x ↦ rw x.found-is (counted_same s.requires c.before.before.before.loop-place.place more told
+          c.before.before.before.loop-place.found x.if-cause_at-limit.false c.before.before.before.loop-place.invariant.2)
+      ],
     )
 
 pub count_causes_spec : {M : Type 1} → statement M

@@ -1,6 +1,5 @@
 -- Those before a place are written, and those from it on make up the rest (`Loops`).
 use mathlib.Core.Path.{ap, ◌∙◌}
-use mathlib.Core.Logic.{⊎_elim}
 use Prim.Native.Nat.{ℕ, ◌+◌, ◌-◌, ◌<◌, ◌≤◌}
 use native.Mathlib.Omega.{arith}
 use lib.IntN.{neg_ℤ}
@@ -11,6 +10,7 @@ use mir.ValLaws.{to_z-of_z}
 use Rattle.numbers.specs.Words.{literal_of}
 use Rattle.area.specs.Layout.{merged_at}
 use Rattle.negations.proofs.Loops.{Writing, room_here, writing_starts, writing_more, writing_same, writing_ends}
+use Rattle.negations.proofs.write_causes.Lts.{then-row-limit, else-row-limit}
 use Rattle.negations.proofs.write_causes.Statement.{statement}
 use Rattle.negations.proofs.write_causes.Tie as tie
 
@@ -36,11 +36,13 @@ loop_again c = let p = c.before.before.before.before.before.before.requires in
     let i = c.before.before.before.loop-place.place in
     let told = c.before.cause_at-row.ensures in (
       omega arith,
-      ⊎_elim
-          (λ x. rw (x.4, x.3) (writing_more p.0 i (more c.before.before) told c.before.before.before.loop-place.invariant.1 p.1 x.0.taken
-          (to_z-of_z w64 x.2.result (search rules) ∙ x.2.ensures ∙ ap {A = ℕ} (λ y. neg_ℤ (literal_of y)) x.1.ensures)))
-          (λ x. rw (x.2, x.1) (writing_same p.0 i (more c.before.before) told c.before.before.before.loop-place.invariant.1 x.0.left))
-          c.if-row-limit.branch,
+      elim c.if-row-limit.branch [
+        | then-row-limit x ↦ rw (x.at-is, x.list-is) (writing_more p.0 i (more c.before.before) told c.before.before.before.loop-place.invariant.1 p.1
+          x.if-row-limit.true
+          (to_z-of_z w64 x.negated.result (search rules) ∙ x.negated.ensures ∙ ap {A = ℕ} (λ y. neg_ℤ (literal_of y)) x.literal_at.ensures))
+        | else-row-limit x ↦ rw (x.at-is, x.list-is)
+          (writing_same p.0 i (more c.before.before) told c.before.before.before.loop-place.invariant.1 x.if-row-limit.false)
+      ],
     )
 
 pub write_causes_spec : {M : Type 1} → statement M

@@ -10,9 +10,9 @@ use Rattle.origin.proofs.origin_within.Tie as tie
 
 pub origin_within_spec : {M : Type 1} → statement M
 origin_within_spec = tie.close (tie.spec
-    (λ c κs. search rules) (λ c. lists_nine _ _ _ _ _ _ (denied c.before.is_whole.ensures c.if-not-is_whole.true) refl)
-    (λ c κs. (c.before.before.before.before.before.requires, granted c.before.before.is_whole.ensures c.before.if-not-is_whole.false))
+    (λ c κs. search rules) (λ c. lists_nine _ _ _ _ _ _ (denied c.before.is_whole.ensures c.if-not-is_whole.true-raw) refl)
+    (λ c κs. (c.before.before.before.before.before.requires, granted c.before.before.is_whole.ensures c.before.if-not-is_whole.false-raw))
     (λ c. search rules)
     (λ c. let s = c.before.before.before.before.before.before.before in
-    lists_whole _ _ _ _ _ _ _ (granted c.before.before.before.before.is_whole.ensures c.before.before.before.if-not-is_whole.false)
+    lists_whole _ _ _ _ _ _ _ (granted c.before.before.before.before.is_whole.ensures c.before.before.before.if-not-is_whole.false-raw)
     (rw (to_z-of_z w64 s.args.literal s.ranges.literal) at c.before.origin_whole.ensures)))

@@ -13,7 +13,7 @@ use Rattle.propagate.proofs.propagate_whole.Tie as tie
 -- what the loop asks
 searchable : (c : tie.After-sentences_of-sentences) {lim : Limits} → let s = c.before.before.before.before in
     Usable lim s.args.area.now (counted s.args.counters)
-    → Searchable lim s.args.area.now c.before.before.atoms_of-n.result c.sentences_of-sentences.result s.args.counters.length s.args.counters.level.0
+    → Searchable lim s.args.area.now c.before.atoms_of-n.result c.sentences_of-sentences.result s.args.counters.length s.args.counters.level.0
 searchable c u = record { fitting = u.fitting; whole = u.whole; atoms = sym c.before.before.atoms_of-n.ensures; sentences = sym c.sentences_of-sentences.ensures }
 
 pub propagate_whole_spec : {M : Type 1} → statement M

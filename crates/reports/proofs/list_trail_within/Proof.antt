@@ -8,6 +8,6 @@ use Rattle.reports.proofs.list_trail_within.Tie as tie
 
 pub list_trail_within_spec : {M : Type 1} → statement M
 list_trail_within_spec = tie.close (tie.spec
-    (λ c κs. search rules) (λ c. lists_nine _ _ _ _ _ _ (denied c.before.is_whole.ensures c.if-not-is_whole.true) refl)
-    (λ c κs. granted c.before.before.is_whole.ensures c.before.if-not-is_whole.false) (λ c. search rules)
-    (λ c. lists_whole _ _ _ _ _ _ _ (granted c.before.before.before.before.is_whole.ensures c.before.before.before.if-not-is_whole.false) c.before.trail_whole.ensures))
+    (λ c κs. search rules) (λ c. lists_nine _ _ _ _ _ _ (denied c.before.is_whole.ensures c.if-not-is_whole.true-raw) refl)
+    (λ c κs. granted c.before.before.is_whole.ensures c.before.if-not-is_whole.false-raw) (λ c. search rules)
+    (λ c. lists_whole _ _ _ _ _ _ _ (granted c.before.before.before.before.is_whole.ensures c.before.before.before.if-not-is_whole.false-raw) c.before.trail_whole.ensures))

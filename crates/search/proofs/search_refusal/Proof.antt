@@ -17,5 +17,5 @@ pub search_refusal_spec : {M : Type 1} → statement M
 search_refusal_spec =
     tie.close
     (tie.spec (λ c κs. search rules) (λ c κs. search rules)
-    (λ c lim. let s = c.before.before.before.before in strange_code lim s.args.area.now s.args.literals.now (denied (told c.before) c.if-not-all_known.true))
-    (λ c lim. let s = c.before.before.before.before in known_code lim s.args.area.now s.args.literals.now (granted (told c.before) c.if-not-all_known.false)))
+    (λ c lim. let s = c.before.before.before.before in strange_code lim s.args.area.now s.args.literals.now (denied (told c.before) c.if-not-all_known.true-raw))
+    (λ c lim. let s = c.before.before.before.before in known_code lim s.args.area.now s.args.literals.now (granted (told c.before) c.if-not-all_known.false-raw)))

@@ -43,7 +43,7 @@ decreases-loop-count area₀ lim literals i₀ total₀ current₀ area i total 
 
 -- still: what is left is the list
 stopped : (c : tie.In-Still invariant-loop-count decreases-loop-count) → let s = c.before.before.before.before.before.before.before in
-    let l = c.before.before.before.before.before.before.before.loop-count in
+    let l = c.before.before.before.before.before.loop-count in
     let g = c.before.answer-1.given.0 in
     let w = c.before.before.before.before.before.propagate_whole-answer.new.0 in
     Reached s.args.lim s.args.area.now w (counted g.1.0) s.args.literals.now (l.total + g.0)
@@ -61,7 +61,7 @@ known : (c : tie.In-Still invariant-loop-count decreases-loop-count) → AllKnow
 known c = let s = c.before.before.before.before.before.before.before.before.before in subst (λ (n : ℕ). AllKnown n s.args.literals.now) (sym (stopped c).moved.atoms) s.requires.known
 
 -- the next literal
-next : (c : tie.After-next_open-j invariant-loop-count decreases-loop-count) → let s = c.before.before.before.before.before.before.before.before.before in
+next : (c : tie.After-next_open-j invariant-loop-count decreases-loop-count) → let s = c.before.before.before.before.before.before.before.before in
     NextIs (area_state s.args.lim c.before.before.before.before.before.before.before.propagate_whole-answer.new.0) s.args.literals.now
     c.before.before.before.before.before.before.before.before.before.loop-count.i c.next_open-j.result
 next c = c.next_open-j.ensures c.before.before.before.before.before.before.before.before.before.before.before.args.lim
@@ -69,11 +69,11 @@ next c = c.next_open-j.ensures c.before.before.before.before.before.before.befor
 
 -- a literal that is not past the list's end
 inside : (c : tie.Else-j-literals invariant-loop-count decreases-loop-count) → c.before.next_open-j.result < length
-    c.before.before.before.before.before.before.before.before.before.before.args.literals.now
+    c.before.before.before.before.before.before.before.before.before.args.literals.now
 inside c = omega (arith, (next c.before).inside, c.if-j-literals.false)
 
 -- what became of it
-tried_here : (c : tie.After-try_literal-tried invariant-loop-count decreases-loop-count) → let s = c.before.before.before.before.before.before.before.before.before.before.before.before.before in
+tried_here : (c : tie.After-try_literal-tried invariant-loop-count decreases-loop-count) → let s = c.before.before.before.before.before.before.before.before.before.before.before.before in
     let t = c.try_literal-tried in
     Tried s.args.lim c.before.before.before.before.before.before.before.before.before.before.before.propagate_whole-answer.new.0
     t.new.0 (counted c.before.before.before.before.before.before.before.answer-1.given.0.1.0) (counted t.result.counters)
@@ -89,7 +89,7 @@ mul_try_literal : tie.Need-overflow-mul-try-literal invariant-loop-count decreas
 mul_try_literal c = omega (arith, inside c.before)
 
 try_literal_requires : tie.Need-try_literal-tried-requires invariant-loop-count decreases-loop-count
-try_literal_requires c κs = let s = c.before.before.before.before.before.before.before.before.before.before.before.before in
+try_literal_requires c κs = let s = c.before.before.before.before.before.before.before.before.before.before.before in
     let ls = s.args.literals.now in
     let j = c.before.before.before.next_open-j.result in
     let w = c.before.before.before.before.before.before.before.before.before.before.propagate_whole-answer.new.0 in
@@ -103,7 +103,7 @@ try_literal_requires c κs = let s = c.before.before.before.before.before.before
     })
 
 -- at the highest level
-highest : (c : tie.Then-tried-ne0 invariant-loop-count decreases-loop-count) → let s = c.before.before.before.before.before.before.before.before.before.before.before.before.before.before.before.before.before.before in
+highest : (c : tie.Then-tried-ne0 invariant-loop-count decreases-loop-count) → let s = c.before.before.before.before.before.before.before.before.before.before.before.before.before.before.before.before.before in
     let t = c.before.before.before.before.before.try_literal-tried in
     Ends s.args.lim s.args.area.now t.new.0 s.args.literals.now
     (unopposed_with 0 (c.before.before.before.before.before.before.before.before.before.before.before.before.before.before.before.before.before.before.loop-count.total
@@ -116,7 +116,7 @@ highest c = let t = c.before.before.before.before.before.try_literal-tried in
     t.result.code (tried_here c.before.before.before.before.before) (inside c.before.before.before.before.before.before.before.before) c.if-tried-ne0.true
 
 loop_again : tie.Need-loop-count-preserved invariant-loop-count decreases-loop-count
-loop_again c = let s = c.before.before.before.before.before.before.before.before.before.before.before.before.before.before.before.before.before.before in
+loop_again c = let s = c.before.before.before.before.before.before.before.before.before.before.before.before.before.before.before.before.before in
     let t = c.before.before.before.before.before.try_literal-tried in
     let on = inside c.before.before.before.before.before.before.before.before in
     let g = reached_given s.args.lim (stopped c.before.before.before.before.before.before.before.before.before.before.before)

@@ -8,7 +8,7 @@ use Rattle.blank.proofs.Blanking.{blank_below}
 use Rattle.store.proofs.clear.Statement.{statement}
 use Rattle.store.proofs.clear.Tie as tie
 
-size : (c : tie.After-blank_words) → length c.blank_words.new.0 ≡ length c.before.before.before.args.area.now
+size : (c : tie.After-blank_words) → length c.blank_words.new.words ≡ length c.before.before.before.args.area.now
 size c = let a = c.before.before.before.args in c.blank_words.ensures.size ∙ length-set a.area.now 0 a.first
 
 returns : tie.Need-returns

@@ -39,7 +39,7 @@ store_one_requires c κs =
     storable b.requires.lim (length b.args.area.now) b.args.n (cols b) b.requires.fitting b.requires.accepted l.s l.from
     c.before.before.before.before.before.before.before.before.loop-s-test.true l.invariant.2.from_is
     _ _ (l.from + get_or b.args.counts.now l.s 0 - l.from) (l.invariant.2.size ∙
-    c.before.before.before.before.before.before.before.before.before.before.before.before.clear.auto.0) z (omega arith)
+    c.before.before.before.before.before.before.before.before.before.before.before.before.clear.auto.area) z (omega arith)
 
 loop_again : tie.Need-loop-s-preserved invariant-loop-s decreases-loop-s
 loop_again c =
@@ -52,19 +52,19 @@ loop_again c =
       omega arith,
       omega (arith, k.weights),
       running_more b.requires.lim (length b.args.area.now) b.args.n (cols b) b.requires.fitting b.requires.accepted
-          c.before.before.before.before.before.before.before.before.before.before.before.before.before.before.before.clear.new.0
-          l.area after.new.0 l.s l.from
+          c.before.before.before.before.before.before.before.before.before.before.before.before.before.before.before.clear.new.area
+          l.area after.new.area l.s l.from
           c.before.before.before.before.before.before.before.before.before.before.before.loop-s-test.true
-          c.before.before.before.before.before.before.before.before.before.before.before.before.before.before.before.clear.auto.0 l.invariant.2
-          (subst (λ (k : ℕ). Stored l.area after.new.0 b.args.n (length b.args.heads.now) l.s k (column.written_at (cols b) l.s)) l.invariant.2.from_is
-          (subst (λ (y : Written). Stored l.area after.new.0 b.args.n (length b.args.heads.now) l.s l.from y) x after.ensures)),
+          c.before.before.before.before.before.before.before.before.before.before.before.before.before.before.before.clear.auto.area l.invariant.2
+          (subst (λ (k : ℕ). Stored l.area after.new.area b.args.n (length b.args.heads.now) l.s k (column.written_at (cols b) l.s)) l.invariant.2.from_is
+          (subst (λ (y : Written). Stored l.area after.new.area b.args.n (length b.args.heads.now) l.s l.from y) x after.ensures)),
     )
 
 returns : tie.Need-returns invariant-loop-s decreases-loop-s
 returns c =
     let b = c.before.before.before.before.before.before.before.before.before.before.before in
     all_stored b.requires.lim (length b.args.area.now) b.args.n (cols b) b.requires.fitting b.requires.accepted b.args.area.now
-    c.before.before.before.before.clear.new.0 c.before.loop-s.area c.before.loop-s.s c.before.loop-s.from (omega arith)
+    c.before.before.before.before.clear.new.area c.before.loop-s.area c.before.loop-s.s c.before.loop-s.from (omega arith)
     c.before.before.before.before.clear.ensures c.before.loop-s.invariant.2
 
 pub store_all_spec : {M : Type 1} → statement M
@@ -77,4 +77,4 @@ store_all_spec = tie.close (tie.spec
     (λ c. let k = place c.before.before.before.before.before.before in omega (arith, k.weights)) (λ c. search rules) (λ c. search rules)
     (λ c. search rules) (λ c. let k = place c.before.before.before.before.before.before.before in omega (arith, k.literals))
     store_one_requires (λ c. search rules) (λ c. search rules) loop_again
-    (λ c. c.before.loop-s.invariant.2.size ∙ c.before.before.before.before.clear.auto.0) returns)
+    (λ c. c.before.loop-s.invariant.2.size ∙ c.before.before.before.before.clear.auto.area) returns)

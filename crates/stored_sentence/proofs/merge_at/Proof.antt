@@ -17,7 +17,7 @@ merge_into_requires c κs =
 returns : tie.Need-returns
 returns c =
     let b = c.before.before.before.before.before in
-    merged_put b.args.area.now c.before.before.merge_into.new.0 b.args.at (b.args.at + 2 * length b.args.weights.now)
+    merged_put b.args.area.now c.before.before.merge_into.new.part b.args.at (b.args.at + 2 * length b.args.weights.now)
     (omega arith) (omega arith) (omega (arith, c.before.before.merge_into.ensures.size)) b.args.kind b.args.weights.now
     b.args.literals.now c.before.before.merge_into.result refl c.before.before.merge_into.ensures
 

@@ -37,8 +37,8 @@ returns c =
     let second = c.before.before.put_four-2 in
     let e : word.result ≡ bias b.args.bound = word.ensures ∙ ap {A = ℤ} bias (to_z-of_z w64 b.args.bound b.ranges.bound) in
     stored b.args.area.now b.args.n b.args.all b.args.s b.args.before b.args.head b.args.kind b.args.side b.args.bound
-    b.args.weights.now b.args.literals.now b.requires merged.new.0 first.new.0 second.new.0 merged.result merged.ensures
-    (subst (λ (k : ℕ). FourPut merged.new.0 first.new.0 (4 * b.args.n + 8 * b.args.s) b.args.head
+    b.args.weights.now b.args.literals.now b.requires merged.new.area first.new.area second.new.area merged.result merged.ensures
+    (subst (λ (k : ℕ). FourPut merged.new.area first.new.area (4 * b.args.n + 8 * b.args.s) b.args.head
     (b.args.kind + 8 * b.args.side + 16) k merged.result.constant) e first.ensures)
     second.ensures
 

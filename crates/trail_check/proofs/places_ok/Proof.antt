@@ -17,6 +17,6 @@ decreases-loop-i area n len i₀ i = len - i
 pub places_ok_spec : {M : Type 1} → statement M
 places_ok_spec = tie.close (tie.spec
     invariant-loop-i decreases-loop-i (λ c. (omega arith, below_none _)) (λ c κs. search rules)
-    (λ c. told_no (λ h. denied c.before.place_ok.ensures c.if-not-place_ok.true (h _ (omega arith)))) (λ c. search rules) (λ c. search rules)
-    (λ c. (omega arith, below_more _ _ c.before.before.before.loop-i.invariant.1 (granted c.before.place_ok.ensures c.if-not-place_ok.false)))
+    (λ c. told_no (λ h. denied c.before.place_ok.ensures c.if-not-place_ok.true-raw (h _ (omega arith)))) (λ c. search rules) (λ c. search rules)
+    (λ c. (omega arith, below_more _ _ c.before.before.before.loop-i.invariant.1 (granted c.before.place_ok.ensures c.if-not-place_ok.false-raw)))
     (λ c. told_yes (λ k l. c.before.loop-i.invariant.1 k (omega arith))))

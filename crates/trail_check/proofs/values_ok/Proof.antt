@@ -17,7 +17,7 @@ decreases-loop-a area n len a₀ a = suc n - a
 pub values_ok_spec : {M : Type 1} → statement M
 values_ok_spec = tie.close (tie.spec
     invariant-loop-a decreases-loop-a (λ c. (omega arith, omega arith, λ k l m. absurd (omega arith))) (λ c κs. search rules)
-    (λ c. told_no (λ h. denied c.before.value_ok.ensures c.if-not-value_ok.true (h _ (omega arith) (omega arith)))) (λ c. search rules)
+    (λ c. told_no (λ h. denied c.before.value_ok.ensures c.if-not-value_ok.true-raw (h _ (omega arith) (omega arith)))) (λ c. search rules)
     (λ c. search rules)
-    (λ c. (omega arith, omega arith, below_more _ _ c.before.before.before.loop-a.invariant.2 (λ _. granted c.before.value_ok.ensures c.if-not-value_ok.false)))
+    (λ c. (omega arith, omega arith, below_more _ _ c.before.before.before.loop-a.invariant.2 (λ _. granted c.before.value_ok.ensures c.if-not-value_ok.false-raw)))
     (λ c. told_yes (λ k m l. c.before.loop-a.invariant.2 k (omega arith) m)))

@@ -1,6 +1,7 @@
 -- Each kind's own greatest weight, by document 01's number of the kind.
 use mathlib.Core.Path.{sym, ap}
 use borrow.Author.Rules.{rules}
+use native.Mathlib.Omega.{arith}
 use Rattle.kinds.specs.Kinds.{greatest_weight}
 use Rattle.area.specs.Layout.{kind_of}
 use Rattle.area.proofs.KindNumbers.{others_minimum}
@@ -9,21 +10,20 @@ use Rattle.weight_check.proofs.greatest_weight.Statement.{statement}
 use Rattle.weight_check.proofs.greatest_weight.Tie as tie
 
 returns : tie.Need-returns-in-0
-returns c = by_number greatest_weight c.before.before.args.kind (search rules) c.greatest.ensures (ap kind_of (sym c.before.in-0.keys1))
+returns c = by_number greatest_weight c.before.before.args.kind (search rules) c.greatest.ensures (ap kind_of (sym c.before.in-0.is))
 
 returns_2 : tie.Need-returns-in-1
-returns_2 c = by_number greatest_weight c.before.before.args.kind (search rules) c.greatest-in-1.ensures (ap kind_of (sym c.before.in-0.keys2))
+returns_2 c = by_number greatest_weight c.before.before.args.kind (search rules) c.greatest-in-1.ensures (ap kind_of (sym c.before.in-1.is))
 
 returns_3 : tie.Need-returns-in-2
-returns_3 c = by_number greatest_weight c.before.before.args.kind (search rules) c.greatest-in-2.ensures (ap kind_of (sym c.before.in-0.keys3))
+returns_3 c = by_number greatest_weight c.before.before.args.kind (search rules) c.greatest-in-2.ensures (ap kind_of (sym c.before.in-2.is))
 
 returns_4 : tie.Need-returns-in-3
-returns_4 c = by_number greatest_weight c.before.before.args.kind (search rules) c.greatest-in-3.ensures (ap kind_of (sym c.before.in-0.keys4))
+returns_4 c = by_number greatest_weight c.before.before.args.kind (search rules) c.greatest-in-3.ensures (ap kind_of (sym c.before.in-3.is))
 
 returns_5 : tie.Need-returns-in_default
 returns_5 c = by_number greatest_weight c.before.before.args.kind (search rules) c.greatest-in_default.ensures
-    (others_minimum c.before.before.args.kind c.before.in-0.rest.0.0.0.1 c.before.in-0.rest.0.0.1
-    c.before.in-0.rest.0.1 c.before.in-0.rest.1)
+    (others_minimum c.before.before.args.kind (omega arith) (omega arith) (omega arith) (omega arith))
 
 pub greatest_weight_spec : {M : Type 1} → statement M
 greatest_weight_spec = tie.close (tie.spec

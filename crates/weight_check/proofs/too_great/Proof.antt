@@ -54,7 +54,7 @@ returns c = let k = known c.before in
     let g : 1000000000000000000 < c.before.before.before.before.loop-i.product * c.before.size-w.result = (div-lt_iff_lt-mul k.positive).0 c.if-product-w.true in
     sym (lt-ltb 1000000000000000000 (product_below (length ws) (λ k. nat_abs (nth ws k))) (omega (arith, k.next, k.grown)))
 
-mul_product : tie.Need-overflow-mul-product invariant-loop-i decreases-loop-i
+mul_product : tie.Need-overflow_mul-product invariant-loop-i decreases-loop-i
 mul_product c = let h : c.before.before.before.before.loop-i.product * c.before.size-w.result ≤ 1000000000000000000 = (le-div_iff_mul-le
     (known c.before).positive).0 c.if-product-w.false in omega arith
 

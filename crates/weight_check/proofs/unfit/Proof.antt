@@ -28,10 +28,10 @@ told c = let s = c.before.before.before.before in
     s.greatest_weight-greatest.ensures c.within.ensures
 
 returns : tie.Need-returns-then-not-within invariant-loop-i decreases-loop-i
-returns c = sym (some_here c.before.before.before.before.loop-i.i _ _ (omega arith) (ap {A = Bool} not (sym (told c.before)) ∙ c.if-not-within.true))
+returns c = sym (some_here c.before.before.before.before.loop-i.i _ _ (omega arith) (ap {A = Bool} not (sym (told c.before) ∙ c.if-not-within.true)))
 
 loop_again : tie.Need-loop-i-preserved invariant-loop-i decreases-loop-i
-loop_again c = (omega arith, some_more _ _ c.before.before.before.before.loop-i.invariant.1 (ap {A = Bool} not (sym (told c.before)) ∙ c.if-not-within.false))
+loop_again c = (omega arith, some_more _ _ c.before.before.before.before.loop-i.invariant.1 (ap {A = Bool} not (sym (told c.before) ∙ c.if-not-within.false)))
 
 returns_2 : tie.Need-returns invariant-loop-i decreases-loop-i
 returns_2 c =

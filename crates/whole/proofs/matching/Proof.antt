@@ -14,11 +14,11 @@ matching_spec = tie.close (tie.spec
     (λ c κs. search rules)
     (λ c. silent c.before.before.before.before.before.before.before.before.extremes_of-found.ensures (omega arith) (omega arith) (c.before.settled.ensures c.if-settled.true) refl)
     (λ c κs. search rules) (λ c. search rules) (λ c. search rules) (λ c. search rules)
-    (λ c. silent c.before.before.before.before.before.before.before.before.before.before.before.extremes_of-found.ensures (omega arith)
-    (omega arith) c.before.before.says-said.ensures c.enum_told-1.given.1)
-    (λ c. in_conflict c.before.before.before.before.before.before.before.before.before.before.before.extremes_of-found.ensures
-    (omega arith) (omega arith) c.before.before.says-said.ensures (sym c.before.before.before.before.before.before.pending_at.ensures
-    ∙ c.before.before.before.before.before.if-pending_at.false) c.enum_told-in-Conflict-1.given.1)
-    (λ c. forcing c.before.before.before.before.before.before.before.before.before.before.before.extremes_of-found.ensures (omega arith)
-    (omega arith) c.before.before.says-said.ensures (sym c.before.before.before.before.before.before.pending_at.ensures
-    ∙ c.before.before.before.before.before.if-pending_at.false) _ c.enum_told-in-Forced-1.given.1))
+    (λ c. silent c.before.before.before.before.before.before.before.before.before.before.extremes_of-found.ensures (omega arith)
+    (omega arith) c.before.says-said.ensures c.in-Silent.is)
+    (λ c. in_conflict c.before.before.before.before.before.before.before.before.before.before.extremes_of-found.ensures
+    (omega arith) (omega arith) c.before.says-said.ensures (sym c.before.before.before.before.before.pending_at.ensures
+    ∙ c.before.before.before.before.if-pending_at.false) c.in-Conflict.is)
+    (λ c. forcing c.before.before.before.before.before.before.before.before.before.before.extremes_of-found.ensures (omega arith)
+    (omega arith) c.before.says-said.ensures (sym c.before.before.before.before.before.pending_at.ensures
+    ∙ c.before.before.before.before.if-pending_at.false) _ c.in-Forced.is))

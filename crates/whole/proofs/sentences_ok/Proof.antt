@@ -25,10 +25,10 @@ sentences_ok_spec = tie.close (tie.spec
     invariant-loop-s decreases-loop-s (λ c. none_passed c.before.requires) (λ c. omega (arith, own_inside c)) (λ c. omega (arith, own_inside c))
     (λ c. omega (arith, own_inside c)) (λ c. sym c.before.before.loop-s.invariant.stamps.size) (λ c. search rules) (λ c κs. search checkable)
     (λ c. words_wrong c.before.before.before.before.before.before.before.requires c.before.before.before.before.before.loop-s.s
-    c.before.before.before.before.loop-s-test.true (denied c.before.before.sentence_ok.ensures.tells c.if-not-sentence_ok.true))
-    (λ c κs. search (ready, granted c.before.before.sentence_ok.ensures.tells c.if-not-sentence_ok.false))
+    c.before.before.before.before.loop-s-test.true (denied c.before.before.sentence_ok.ensures.tells c.if-not-sentence_ok.true-raw))
+    (λ c κs. search (ready, granted c.before.before.sentence_ok.ensures.tells c.if-not-sentence_ok.false-raw))
     (λ c. matching_wrong c.before.before.before.before.before.before.before.before.before.requires
-    c.before.before.before.before.before.before.before.loop-s.s c.before.before.before.before.before.before.loop-s-test.true c.before.matching.ensures c.if-not-matching.true)
+    c.before.before.before.before.before.before.before.loop-s.s c.before.before.before.before.before.before.loop-s-test.true c.before.matching.ensures c.if-not-matching.true-raw)
     (λ c. search rules) (λ c. search rules)
-    (λ c. search (one_passed, granted c.before.before.before.before.sentence_ok.ensures.tells c.before.before.if-not-sentence_ok.false))
+    (λ c. search (one_passed, granted c.before.before.before.before.sentence_ok.ensures.tells c.before.before.if-not-sentence_ok.false-raw))
     (λ c. all_passed c.before.before.before.requires c.before.loop-s.s _ c.before.loop-s.invariant (omega arith)))

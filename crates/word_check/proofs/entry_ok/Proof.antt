@@ -12,10 +12,10 @@ entry_ok_spec = tie.close (tie.spec
     (λ c. told_no (λ h. omega (arith, h.atom_low, atom_half c.before.args.literal)))
     (λ c. told_no (λ h. omega (arith, h.atom_high, atom_half c.before.before.args.literal)))
     (λ c. told_no (λ h. h.other (atom_half c.before.before.before.args.literal ∙ c.if-literal-head.true))) (λ c κs. search rules)
-    (λ c. told_no (λ h. denied c.before.weight_ok.ensures c.if-not-weight_ok.true h.weighs))
+    (λ c. told_no (λ h. denied c.before.weight_ok.ensures c.if-not-weight_ok.true-raw h.weighs))
     (λ c. told_yes (record {
       atom_low = omega (arith, atom_half c.before.before.before.before.before.args.literal);
       atom_high = omega (arith, atom_half c.before.before.before.before.before.args.literal);
-      weighs = granted c.before.weight_ok.ensures c.if-not-weight_ok.false;
+      weighs = granted c.before.weight_ok.ensures c.if-not-weight_ok.false-raw;
       other = λ e. c.before.before.if-literal-head.false (sym (atom_half c.before.before.before.before.before.args.literal) ∙ e);
     })))
