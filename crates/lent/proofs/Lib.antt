@@ -1,3 +1,0 @@
-pub mod LocalArray
-pub mod Lending
-pub mod Loading
