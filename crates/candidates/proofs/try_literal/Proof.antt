@@ -10,7 +10,7 @@ use Rattle.candidates.proofs.try_literal.Tie as tie
 
 -- the area with the level open
 usable : (c : tie.Else-opened-ne0) → Usable c.before.before.before.before.before.before.before.args.lim
-    c.before.before.before.before.open_whole-opened.new.0 (counted c.before.before.before.before.open_whole-opened.result.counters)
+    c.before.before.before.before.open_whole-opened.new.area (counted c.before.before.before.before.open_whole-opened.result.counters)
 usable c = let u = c.before.before.before.before.before.before.before.requires.usable in
     record { fitting = u.fitting; whole = (moved _ _ _ _ _ _ u.whole c.before.before.before.before.open_whole-opened.ensures c.if-opened-ne0.false).whole }
 

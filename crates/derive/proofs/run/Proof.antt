@@ -18,53 +18,40 @@ invariant-loop-area area₀ n count len level length₀ area length =
 abbrev decreases-loop-area : tie.decreases-loop-area
 decreases-loop-area area₀ n count len level length₀ area length = n - length
 
-sizes : (c : tie.In-Forced invariant-loop-area decreases-loop-area) → Sizes c.before.before.before.before.args.level
-    c.before.found-in-Forced-1.given.0.0 c.before.found-in-Forced-1.given.0.1.1.0
-sizes c = let s = c.before.before.before.before.before.before.before in
-    forced_sizes (c.before.before.before.before.before.loop-area.invariant.1 s.requires.0 s.requires.1).searchable c.before.before.before.find-found.ensures
-    c.before.found-in-Forced-1.given.1
+sizes : (c : tie.In-Forced invariant-loop-area decreases-loop-area) → Sizes c.args.level c.in-Forced.s c.in-Forced.place
+sizes c = forced_sizes (c.loop-area.invariant.1 c.requires.0 c.requires.1).searchable c.find-found.ensures c.in-Forced.is
 
 loop_again : tie.Need-loop-area-preserved invariant-loop-area decreases-loop-area
-loop_again c = let s = c.before.before.before.before.before.before.before.before in
-    let p = s.requires in (
-      (reached_next (c.before.before.before.before.before.before.before.before.before.loop-area.invariant.1 p.0 p.1)
-          c.before.before.before.before.before.before.before.find-found.ensures c.before.before.before.before.before.found-in-Forced-1.given.1 _
-          (c.before.before.advance.ensures p.0 s.args.level)).moved.size,
-      λ lim a. reached_next (c.before.before.before.before.before.before.before.before.before.loop-area.invariant.1 lim a)
-          c.before.before.before.before.before.before.before.find-found.ensures c.before.before.before.before.before.found-in-Forced-1.given.1 _
-          (c.before.before.advance.ensures lim s.args.level),
-    )
+loop_again c = let p = c.requires in (
+  (reached_next (c.loop-area.invariant.1 p.0 p.1) c.find-found.ensures c.in-Forced.is _ (c.advance.ensures p.0 c.args.level)).moved.size,
+  λ lim a. reached_next (c.loop-area.invariant.1 lim a) c.find-found.ensures c.in-Forced.is _ (c.advance.ensures lim c.args.level),
+)
 
 pub run_spec : {M : Type 1} → statement M
 run_spec = tie.close (tie.spec
     invariant-loop-area decreases-loop-area (λ c. (refl, λ lim a. reached_first a))
-    (λ c κs. let s = c.before.before.before in
-    record { lim = s.requires.0; len = c.before.loop-area.length; level = s.args.level; searchable = (c.before.loop-area.invariant.1 s.requires.0 s.requires.1).searchable })
+    (λ c κs. record {
+      lim = c.requires.0;
+      len = c.loop-area.length;
+      level = c.args.level;
+      searchable = (c.loop-area.invariant.1 c.requires.0 c.requires.1).searchable;
+    })
     (λ c. search rules)
-    (λ c κs. let s = c.before.before.before.before.before.before.before in
-    settleable (c.before.before.before.before.before.loop-area.invariant.1 s.requires.0 s.requires.1))
+    (λ c κs. settleable (c.loop-area.invariant.1 c.requires.0 c.requires.1))
     (λ c. search rules)
-    (λ c. λ lim a. reached_still (c.before.before.before.before.before.before.before.before.loop-area.invariant.1 lim a)
-    c.before.before.before.before.before.before.find-found.ensures c.before.before.before.before.enum_told-1.given.1 _
-    c.before.before.settle.ensures)
+    (λ c. λ lim a. reached_still (c.loop-area.invariant.1 lim a) c.find-found.ensures c.in-Nothing.is _ c.settle.ensures)
     (λ c. search rules)
-    (λ c. let s = c.before.before.before.before.before.before.before in
-    let r = c.before.before.before.before.before.loop-area.invariant.1 s.requires.0 s.requires.1 in
-    omega (arith, (settleable r).sentences, c.before.before.before.find-found.ensures.conflict_inside _ c.before.found-1.given.1))
+    (λ c. let r = c.loop-area.invariant.1 c.requires.0 c.requires.1 in
+    omega (arith, (settleable r).sentences, c.find-found.ensures.conflict_inside _ c.in-Conflict.is))
     (λ c. search rules)
-    (λ c. λ lim a. reached_conflict (c.before.before.before.before.before.loop-area.invariant.1 lim a) c.before.before.before.find-found.ensures
-    c.before.found-1.given.1)
+    (λ c. λ lim a. reached_conflict (c.loop-area.invariant.1 lim a) c.find-found.ensures c.in-Conflict.is)
     (λ c. search rules) (λ c. let z = sizes c in omega arith) (λ c. let z = sizes c in omega arith) (λ c. let z = sizes c in omega arith)
     (λ c. let z = sizes c in omega arith) (λ c. let z = sizes c in omega arith)
-    (λ c κs. let s = c.before.before.before.before.before.before.before.before in
-    let p = s.requires in (
+    (λ c κs. let p = c.requires in (
       p.0,
-      s.args.level,
-      forced_advanceable (c.before.before.before.before.before.before.loop-area.invariant.1 p.0 p.1).searchable
-          c.before.before.before.before.find-found.ensures c.before.before.found-in-Forced-1.given.1,
+      c.args.level,
+      forced_advanceable (c.loop-area.invariant.1 p.0 p.1).searchable c.find-found.ensures c.in-Forced.is,
     ))
-    (λ c. let s = c.before.before.before.before.before.before.before.before.before.before.before in
-    let r = (loop_again c).1 s.requires.0 s.requires.1 in omega (arith, few_rows r.searchable, (settleable r).atoms))
-    (λ c. let s = c.before.before.before.before.before.before.before.before.before.before.before in
-    omega (arith, few_rows ((loop_again c).1 s.requires.0 s.requires.1).searchable))
+    (λ c. let r = (loop_again c).1 c.requires.0 c.requires.1 in omega (arith, few_rows r.searchable, (settleable r).atoms))
+    (λ c. omega (arith, few_rows ((loop_again c).1 c.requires.0 c.requires.1).searchable))
     loop_again)

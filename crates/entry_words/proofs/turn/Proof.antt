@@ -2,7 +2,6 @@
 use mathlib.Core.Path.{sym, ◌∙◌}
 use borrow.Author.Rules.{rules}
 use native.Mathlib.Omega.{arith}
-use borrow.Author.Tests.{not-true, not-false}
 use Rattle.entry_words.proofs.Signs.{turned_plain, turned_even, turned_odd}
 use Rattle.entry_words.proofs.turn.Statement.{statement}
 use Rattle.entry_words.proofs.turn.Tie as tie

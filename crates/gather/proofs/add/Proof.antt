@@ -3,7 +3,6 @@
 use mathlib.Core.Path.{sym, ◌∙◌}
 use borrow.Author.Rules.{rules}
 use native.Mathlib.Omega.{arith}
-use borrow.Author.Tests.{not-true, not-false}
 use Rattle.gather.proofs.Gathering.{weight_top, left_out, constant_low, constant_high, puttable, taken_in}
 use Rattle.gather.proofs.add.Statement.{statement}
 use Rattle.gather.proofs.add.Tie as tie

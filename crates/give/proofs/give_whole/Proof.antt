@@ -29,24 +29,24 @@ code c lim u = let s = c.before.before in rw (to_z-of_z w64 s.args.literal s.ran
 
 told : (c : tie.After-atom_of-atom) → AtomOf (atoms_of (start c).args.area.now) (start c).args.literal c.atom_of-atom.result
 told c = let s = start c in
-    subst (λ n. AtomOf n s.args.literal c.atom_of-atom.result) c.before.atoms_of-n.ensures (told_atom s.args.literal s.ranges.literal c.atom_of-atom.ensures)
+    subst (λ n. AtomOf n s.args.literal c.atom_of-atom.result) c.atoms_of-n.ensures (told_atom s.args.literal s.ranges.literal c.atom_of-atom.ensures)
 
 open_at : (c : tie.After-atom_of-atom) → Open (start c).args.area.now (start c).args.literal c.atom_of-atom.result
 open_at c = let s = start c in
     open_atom s.requires.0 _ _ s.requires.1 _ (told c)
-    (sym (code c.before.before.before.before s.requires.0 s.requires.1) ∙ c.before.before.before.if-code-ne0.false)
+    (sym (code c.before.before.before s.requires.0 s.requires.1) ∙ c.if-code-ne0.false)
 
-told_word : (c : tie.After-word_of-word) → c.word_of-word.result ≡ literal_word (start c.before.before.before).args.literal
-told_word c = let s = start c.before.before.before in
+told_word : (c : tie.After-word_of-word) → c.word_of-word.result ≡ literal_word (start c.before.before).args.literal
+told_word c = let s = start c.before.before in
     c.word_of-word.ensures ∙ ap {A = ℤ} literal_word (to_z-of_z w64 s.args.literal s.ranges.literal)
 
 returns_2 : tie.Need-returns
-returns_2 c = λ lim u. let s = start c.before.before.before.before.before.before.before.before in
-    let k = open_at c.before.before.before.before.before.before.before.before in
+returns_2 c = λ lim u. let s = start c.before.before.before.before.before.before.before in
+    let k = open_at c.before.before.before.before.before.before.before in
     let had = counted s.args.counters in
     let advanced = rw (
-      c.before.before.before.before.before.before.before.before.before.atoms_of-n.ensures,
-      c.before.before.before.before.before.before.sentences_of-sentences.ensures,
+      c.atoms_of-n.ensures,
+      c.sentences_of-sentences.ensures,
       told_word c.before.before.before.before.before,
     ) at
     c.before.before.advance.ensures in
@@ -57,14 +57,14 @@ pub give_whole_spec : {M : Type 1} → statement M
 give_whole_spec = tie.close (tie.spec
     (λ c κs. search rules) (λ c. search rules) (λ c lim u. stops u.whole (code c.before lim u) c.if-code-ne0.true) (λ c κs. search rules)
     (λ c κs. search rules) (λ c κs. search rules)
-    (λ c κs. let s = start c.before.before in
-    let k = (open_at c.before.before).is in (
+    (λ c κs. let s = start c.before in
+    let k = (open_at c.before).is in (
       k.is ∙ ap {A = ℤ} atom (sym (to_z-of_z w64 s.args.literal s.ranges.literal)),
       omega (arith, k.is, k.high, s.requires.1.whole.theory.atoms_high, s.requires.1.fitting.atoms),
     ))
-    (λ c κs. let s = start c.before.before.before.before.before in
-    let k = open_at c.before.before.before.before.before in
+    (λ c κs. let s = start c.before.before.before.before in
+    let k = open_at c.before.before.before.before in
     let had = counted s.args.counters in
-    rw (c.before.before.before.before.before.before.atoms_of-n.ensures, c.before.before.before.sentences_of-sentences.ensures, told_word c.before.before)
+    rw (c.atoms_of-n.ensures, c.sentences_of-sentences.ensures, told_word c.before.before)
     (s.requires.0, had.level_is, give_advanceable s.requires.0 _ had s.requires.1 s.args.literal k.is.low k.is.high k.free))
     (λ c. search rules) (λ c. search rules) returns_2)

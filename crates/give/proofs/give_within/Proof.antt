@@ -18,5 +18,5 @@ pub give_within_spec : {M : Type 1} → statement M
 give_within_spec = tie.close (tie.spec
     (λ c κs. search rules) (λ c. search rules) (λ c. acts_broken _ _ _ _ _ (denied c.before.is_whole.ensures c.if-not-is_whole.true-raw) refl)
     (λ c κs. (_, usable c.before)) (λ c. search rules)
-    (λ c. let s = c.before.before.before.before.before.before.before.before in
+    (λ c. let s = c.before.before.before.before.before.before.before in
     rw (to_z-of_z w64 s.args.literal s.ranges.literal) at (c.before.before.give_whole.ensures s.args.lim (usable c.before.before.before.before))))

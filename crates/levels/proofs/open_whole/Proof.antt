@@ -21,7 +21,7 @@ returns_2 c = let s = c.before.before.before.before.before.before.before.before 
     omega (
       arith,
       opens_below s.args.lim s.args.area.now
-          (sym (code c.before.before.before.before.before.before.before) ∙ c.before.before.before.before.before.before.if-code-ne0.false),
+          (sym (code c.before.before.before.before.before.before) ∙ c.if-code-ne0.false),
       s.requires.whole.level_is,
     ) in
     search (open_raises, low)

@@ -9,5 +9,5 @@ use Rattle.levels.proofs.open_within.Tie as tie
 pub open_within_spec : {M : Type 1} → statement M
 open_within_spec = tie.close (tie.spec
     (λ c κs. search rules) (λ c. search rules) (λ c. acts_broken _ _ _ _ _ (denied c.before.is_whole.ensures c.if-not-is_whole.true-raw) refl)
-    (λ c κs. record { fitting = c.before.before.before.before.before.requires; whole = granted c.before.before.is_whole.ensures c.before.if-not-is_whole.false-raw })
+    (λ c κs. record { fitting = c.before.before.before.before.requires; whole = granted c.before.before.is_whole.ensures c.before.if-not-is_whole.false-raw })
     (λ c. search rules) (λ c. search rules))

@@ -22,37 +22,37 @@ below c = let s = c.before.before.before in
 
 refresh_requires : tie.Need-refresh-requires
 refresh_requires c κs = let s = c.before.before.before.before.before.before.before.before.before.before.before.before.before.before.before.before.before.before in
-    let e = c.before.before.before.before.before.before.before.before.before.before.before.before.before.before.atoms_of-n.ensures in
-    rw (e, c.before.before.before.before.before.before.before.before.before.before.before.before.sentences_of-sentences.ensures) (
+    let e = c.atoms_of-n.ensures in
+    rw (e, c.sentences_of-sentences.ensures) (
       s.args.lim,
       lowered_refreshable _ _ _ _ s.args.k s.requires.fitting s.requires.whole
           (omega (
             arith,
-            below c.before.before.before.before.before.before.before.before.before.before.before.before.before.before.before.before.before,
-            c.before.before.before.before.before.before.before.before.before.before.before.before.before.before.before.before.if-k-level.false,
+            below c.before.before.before.before.before.before.before.before.before.before.before.before.before.before.before,
+            c.if-k-level.false,
           )) _ _ _
-          (rw e at c.before.before.before.before.before.before.before.before.before.cut-left.ensures) _ (rw e at c.before.before.before.before.set_header.ensures),
+          (rw e at c.cut-left.ensures) _ (rw e at c.set_header.ensures),
     )
 
 returns_3 : tie.Need-returns
 returns_3 c = let s = c.before.before.before.before.before.before.before.before.before.before.before.before.before.before.before.before.before.before.before.before.before in
-    let e = c.before.before.before.before.before.before.before.before.before.before.before.before.before.before.before.before.before.atoms_of-n.ensures in
+    let e = c.atoms_of-n.ensures in
     take_back_lowers _ _ _ _ s.args.k s.requires.fitting s.requires.whole
     (omega (
       arith,
-      below c.before.before.before.before.before.before.before.before.before.before.before.before.before.before.before.before.before.before.before.before,
-      c.before.before.before.before.before.before.before.before.before.before.before.before.before.before.before.before.before.before.before.if-k-level.false,
+      below c.before.before.before.before.before.before.before.before.before.before.before.before.before.before.before.before.before.before,
+      c.if-k-level.false,
     )) _ _ _
-    (rw e at c.before.before.before.before.before.before.before.before.before.before.before.before.cut-left.ensures) _ _
-    (rw e at c.before.before.before.before.before.before.before.set_header.ensures)
-    (rw (e, c.before.before.before.before.before.before.before.before.before.before.before.before.before.before.before.sentences_of-sentences.ensures) at c.before.before.refresh.ensures)
+    (rw e at c.cut-left.ensures) _ _
+    (rw e at c.set_header.ensures)
+    (rw (e, c.sentences_of-sentences.ensures) at c.refresh.ensures)
 
 pub take_back_whole_spec : {M : Type 1} → statement M
 take_back_whole_spec = tie.close (tie.spec
     (λ c κs. search rules) (λ c. stops c.before.before.before.requires.whole (code c.before) c.if-code-ne0.true)
     (λ c. search (take_back_stays, arith)) (λ c κs. search rules) (λ c κs. search rules) (λ c. search rules)
-    (λ c κs. let s = c.before.before.before.before.before.before.before.before.before.before in
-    rw c.before.before.before.before.atoms_of-n.ensures
+    (λ c κs. let s = c.before.before.before.before.before.before.before.before in
+    rw c.atoms_of-n.ensures
     (record { lim = s.args.lim; level = s.args.counters.level.0; standing = whole_stands _ _ _ _ s.requires.fitting s.requires.whole }, refl))
-    (λ c κs. let l = below c.before.before.before.before.before.before.before.before.before.before.before.before in search rules)
+    (λ c κs. let l = below c.before.before.before.before.before.before.before.before.before.before in search rules)
     (λ c. search rules) refresh_requires (λ c. search rules) returns_3)

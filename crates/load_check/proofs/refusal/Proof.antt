@@ -3,7 +3,6 @@ use mathlib.Core.Path.{◌≡◌, sym, ◌∙◌}
 use mathlib.Core.Bool.{false}
 use native.Mathlib.Omega.{arith}
 use borrow.Author.Rules.{rules}
-use borrow.Author.Tests.{not-true, not-false}
 use Rattle.columns.specs.Columns.{Columns, seven_columns}
 use Rattle.columns.specs.Refusals.{misshapen}
 use Rattle.columns.specs.Decides.{Shaped}

@@ -6,7 +6,7 @@ use borrow.Author.Rules.{rules}
 use Rattle.origins.proofs.choose.Statement.{statement}
 use Rattle.origins.proofs.choose.Tie as tie
 
-same_size : (c : tie.After-mark) → length c.mark.new.1.1.1.1.0 ≡ length c.before.before.before.before.before.before.before.args.marks.now
+same_size : (c : tie.After-mark) → length c.mark.new.marks ≡ length c.before.before.before.before.before.before.before.args.marks.now
 same_size c = let s = c.before.before.before.before.before.before.before in
     c.mark.ensures.size ∙ length-set s.args.marks.now s.args.position _
 

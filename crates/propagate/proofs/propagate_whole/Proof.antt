@@ -11,27 +11,27 @@ use Rattle.propagate.proofs.propagate_whole.Statement.{statement}
 use Rattle.propagate.proofs.propagate_whole.Tie as tie
 
 -- what the loop asks
-searchable : (c : tie.After-sentences_of-sentences) {lim : Limits} → let s = c.before.before.before.before in
+searchable : (c : tie.After-sentences_of-sentences) {lim : Limits} → let s = c in
     Usable lim s.args.area.now (counted s.args.counters)
-    → Searchable lim s.args.area.now c.before.atoms_of-n.result c.sentences_of-sentences.result s.args.counters.length s.args.counters.level.0
-searchable c u = record { fitting = u.fitting; whole = u.whole; atoms = sym c.before.before.atoms_of-n.ensures; sentences = sym c.sentences_of-sentences.ensures }
+    → Searchable lim s.args.area.now c.atoms_of-n.result c.sentences_of-sentences.result s.args.counters.length s.args.counters.level.0
+searchable c u = record { fitting = u.fitting; whole = u.whole; atoms = sym c.atoms_of-n.ensures; sentences = sym c.sentences_of-sentences.ensures }
 
 pub propagate_whole_spec : {M : Type 1} → statement M
 propagate_whole_spec = tie.close (tie.spec
     (λ c κs. search rules) (λ c κs. search rules)
-    (λ c κs. let s = c.before.before.before.before.before.before.before in
+    (λ c κs. let s = c in
     (s.requires.0, searchable c.before s.requires.1))
-    (λ c. let p = c.before.before.before.before.before.before.before.before.before.before.requires in
-    omega (arith, longer _ _ _ _ _ _ _ p.1.whole (c.before.before.run-end.ensures p.0 (searchable c.before.before.before.before p.1))))
+    (λ c. let p = c.requires in
+    omega (arith, longer _ _ _ _ _ _ _ p.1.whole (c.run-end.ensures p.0 (searchable c.before.before.before.before p.1))))
     (λ c. search rules)
     (λ c. (
-      (λ lim u. acts_still _ _ _ _ _ _ _ u.whole (c.before.before.before.before.run-end.ensures lim
+      (λ lim u. acts_still _ _ _ _ _ _ _ u.whole (c.run-end.ensures lim
           (searchable c.before.before.before.before.before.before u)) c.if-end-eq0.true),
       tt,
     ))
     (λ c. search rules)
     (λ c. (
       (λ lim u. acts_conflict _ _ _ _ _ _ _ u.whole
-          (c.before.before.before.before.run-end.ensures lim (searchable c.before.before.before.before.before.before u)) c.if-end-eq0.false),
+          (c.run-end.ensures lim (searchable c.before.before.before.before.before.before u)) c.if-end-eq0.false),
       c.if-end-eq0.false,
     )))

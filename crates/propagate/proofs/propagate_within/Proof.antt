@@ -8,16 +8,16 @@ use Rattle.whole.specs.Inner.Usable.{Usable}
 use Rattle.propagate.proofs.propagate_within.Statement.{statement}
 use Rattle.propagate.proofs.propagate_within.Tie as tie
 
-usable : (c : tie.Else-not-is_whole) → let s = c.before.before.before in
+usable : (c : tie.Else-not-is_whole) → let s = c in
     Usable s.args.lim s.args.area.now (counted s.args.counters)
-usable c = record { fitting = c.before.before.before.requires; whole = granted c.before.is_whole.ensures c.if-not-is_whole.false-raw }
+usable c = record { fitting = c.requires; whole = granted c.is_whole.ensures c.if-not-is_whole.false-raw }
 
 pub propagate_within_spec : {M : Type 1} → statement M
 propagate_within_spec = tie.close (tie.spec
-    (λ c κs. search rules) (λ c. search rules) (λ c. (acts_broken _ _ _ _ _ (denied c.before.is_whole.ensures c.if-not-is_whole.true-raw) refl, tt))
+    (λ c κs. search rules) (λ c. search rules) (λ c. (acts_broken _ _ _ _ _ (denied c.is_whole.ensures c.if-not-is_whole.true-raw) refl, tt))
     (λ c κs. (_, usable c.before)) (λ c. search rules)
     (λ c. (
-      c.before.before.propagate_whole.ensures.0 c.before.before.before.before.before.before.before.before.args.lim
+      c.propagate_whole.ensures.0 c.args.lim
           (usable c.before.before.before.before),
-      c.before.before.propagate_whole.ensures.1,
+      c.propagate_whole.ensures.1,
     )))

@@ -17,9 +17,9 @@ abbrev decreases-loop-left : tie.decreases-loop-left
 decreases-loop-left area₀ n len k touched₀ left₀ area touched left = left
 
 -- the last row is of an atom
-last_row : (c : tie.After-literal_at invariant-loop-left decreases-loop-left) → let l = c.before.before.before.before.loop-left in let n = c.before.before.before.before.before.before.before.before.args.n in
+last_row : (c : tie.After-literal_at invariant-loop-left decreases-loop-left) → let l = c.before.before.before.before.loop-left in let n = c.before.before.before.before.before.before.before.args.n in
     (1 ≤ literal_at l.area n (l.left - 1) / 2) × (literal_at l.area n (l.left - 1) / 2 ≤ n)
-last_row c = row_within _ _ _ _ _ _ _ _ c.before.before.before.before.before.before.loop-left.invariant c.before.before.before.before.before.loop-left-test.true
+last_row c = row_within _ _ _ _ _ _ _ _ c.before.before.before.before.loop-left.invariant c.loop-left-test.true
 
 pub cut_spec : {M : Type 1} → statement M
 cut_spec = tie.close (tie.spec
@@ -27,13 +27,13 @@ cut_spec = tie.close (tie.spec
     (λ c. let s = c.before.before.requires.0.standing in
     cutting_starts _ _ _ _ _ _ (omega arith) (omega arith) (omega arith) (subst (TrailOk _ _ _) (sym s.header.level_is) s.trail_ok) c.before.before.requires.1)
     (λ c. search rules) (λ c κs. search rules) (λ c. search rules) (λ c. search rules)
-    (λ c. cut_at_row _ _ _ _ _ _ _ _ c.before.before.before.loop-left.invariant c.before.before.loop-left-test.true (rw c.before.row_level.ensures at c.if-row_level-k.true) _)
-    (λ c κs. literal_there _ _ _ _ _ _ _ _ c.before.before.before.before.before.loop-left.invariant c.before.before.before.before.loop-left-test.true)
+    (λ c. cut_at_row _ _ _ _ _ _ _ _ c.loop-left.invariant c.loop-left-test.true (rw c.row_level.ensures at c.if-row_level-k.true) _)
+    (λ c κs. literal_there _ _ _ _ _ _ _ _ c.loop-left.invariant c.loop-left-test.true)
     (λ c. search rules) (λ c. omega (arith, last_row c)) (λ c. omega (arith, last_row c)) (λ c. omega (arith, last_row c)) (λ c. search rules)
     (λ c. search rules) (λ c. search rules)
-    (λ c. simp length-set (literal_there _ _ _ _ _ _ _ _ c.before.before.before.before.before.before.loop-left.invariant c.before.before.before.before.before.loop-left-test.true))
+    (λ c. simp length-set (literal_there _ _ _ _ _ _ _ _ c.loop-left.invariant c.loop-left-test.true))
     (λ c. search rules) (λ c. search rules) (λ c. search rules) (λ c. simp length-set (omega arith)) (λ c. omega (arith, last_row c))
     (λ c. search rules)
-    (λ c. rw c.literal_at.ensures (cutting_goes_on _ _ _ _ _ _ _ _ c.before.before.before.before.before.before.loop-left.invariant c.before.before.before.before.before.loop-left-test.true
-    (rw c.before.before.before.row_level.ensures at c.before.before.if-row_level-k.false)))
-    (λ c. search rules) (λ c. search rules) (λ c. cut_at_none _ _ _ _ _ _ _ _ c.before.loop-left.invariant c.loop-left-test.false _))
+    (λ c. rw c.literal_at.ensures (cutting_goes_on _ _ _ _ _ _ _ _ c.loop-left.invariant c.loop-left-test.true
+    (rw c.row_level.ensures at c.if-row_level-k.false)))
+    (λ c. search rules) (λ c. search rules) (λ c. cut_at_none _ _ _ _ _ _ _ _ c.loop-left.invariant c.loop-left-test.false _))

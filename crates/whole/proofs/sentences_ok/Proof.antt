@@ -17,7 +17,7 @@ abbrev decreases-loop-s : tie.decreases-loop-s
 decreases-loop-s area lim n count seen₀ s₀ seen s = count - s
 
 -- the sentence's words are inside
-own_inside : (c : tie.In-loop-s invariant-loop-s decreases-loop-s) → record_at c.before.before.before.args.n c.before.loop-s.s + 8 ≤ length c.before.before.before.args.area.now
+own_inside : (c : tie.In-loop-s-unread invariant-loop-s decreases-loop-s) → record_at c.before.before.before.args.n c.before.loop-s.s + 8 ≤ length c.before.before.before.args.area.now
 own_inside c = inside c.before.before.before.requires c.before.loop-s.s c.loop-s-test.true
 
 pub sentences_ok_spec : {M : Type 1} → statement M

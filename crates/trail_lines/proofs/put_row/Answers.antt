@@ -1,0 +1,13 @@
+-- Part behind part.
+use Rattle.numbers.specs.Text.{bytes}
+use Rattle.pages.proofs.Laws.{then, then_named}
+use Rattle.pages.proofs.Numbers.{named_put}
+use Rattle.trail_lines.proofs.put_row.Goals as goal
+
+pub returns : goal.returns
+returns c =
+    let a = c.args in
+    let r = c.ranges in
+    let first = named_put (bytes "t ") a.literal r.literal c.put_named-first.ensures in
+    let second = then_named (bytes " ") a.level first (named_put (bytes " ") a.level r.level c.put_named-second.ensures) in
+    then (then_named (bytes " ") a.reason second (named_put (bytes " ") a.reason r.reason c.put_named-third.ensures)) c.put_bytes.ensures
