@@ -1,0 +1,7 @@
+-- The page is never too short, so the output's end is on it.
+use mathlib.Core.Path.{refl}
+use Rattle.listing_claims.proofs.Fits.{on_page}
+use Rattle.opb.proofs.main.Goals as goal
+
+pub slice_bounds-page-end : goal.slice_bounds-page-end
+slice_bounds-page-end c = on_page c.run-end.ensures refl
