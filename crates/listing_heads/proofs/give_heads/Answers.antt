@@ -21,8 +21,7 @@ give_whole-given-requires c = (document, record { fitting = base_fits; whole = c
 pub loop-k-preserved : goal.loop-k-preserved
 loop-k-preserved c =
     let head = c.args.variables + (c.loop-k.k + 1) in
-    let g = c.loop-k.invariant.1 in
-    (
+    let g = c.loop-k.invariant.1 in (
       omega arith,
       heads_more (to_z w64 head) (to_z_pos w64 head (omega (arith, c.requires.few))) g
           (c.give_whole-given.ensures document (record { fitting = base_fits; whole = g.stands.whole })),
