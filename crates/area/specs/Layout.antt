@@ -153,6 +153,9 @@ abbrev pub entry_at : List ℕ → ℕ → ℕ → ℕ → ℕ
 entry_at w n S b = 4 * n + 8 * S + 2 * before_at w b
 
 -- of entry j of the sentence at b, from 0
+abbrev pub weight_at : List ℕ → ℕ → ℕ → ℕ → ℕ → ℕ
+weight_at w n S b j = word w (entry_at w n S b + 2 * j)
+
 abbrev pub entry_literal_at : List ℕ → ℕ → ℕ → ℕ → ℕ → ℕ
 entry_literal_at w n S b j = word w (entry_at w n S b + 2 * j + 1)
 

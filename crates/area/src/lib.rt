@@ -4,7 +4,7 @@
 
 ghost use Rattle.std.specs.Prelude.{◌≡◌, ℕ, ◌+◌, ◌-◌, ◌*◌, ◌≤◌, ◌<◌, ◌%◌, length, set};
 ghost use Rattle.decide.specs.Inner.Tells.{Tells};
-ghost use Rattle.area.specs.Layout.{word, atoms_of, sentences_of, length_of, level_of, value_at, literal_at, cause_at, place_at, row_at, head_at, tag_at, pending_at, kind_at, upper_at, bound_at, constant_at, least_at, greatest_at, before_at, written_at, merged_at, entry_at, entry_literal_at, weight_in, literal_in};
+ghost use Rattle.area.specs.Layout.{word, atoms_of, sentences_of, length_of, level_of, value_at, literal_at, cause_at, place_at, row_at, head_at, tag_at, pending_at, kind_at, upper_at, bound_at, constant_at, least_at, greatest_at, before_at, written_at, merged_at, entry_at, weight_at, entry_literal_at, weight_in, literal_in};
 
 // Whether the words from one on, up to another, are unused.
 pub fn blank(area: &[u64], from: usize, to: usize) -> bool
@@ -197,6 +197,13 @@ pub fn entry_at(area: &[u64], n: usize, sentences: usize, base: usize) -> usize
 }
 
 // of its entry j, from 0
+pub fn weight_at(area: &[u64], n: usize, sentences: usize, base: usize, j: usize) -> u64
+    requires { (base + 8 ≤ length area.now) × (entry_at area.now n sentences base + 2 * j + 1 < length area.now) }
+    ensures { result ≡ weight_at area.now n sentences base j }
+{
+    area[4 * n + 8 * sentences + 2 * area[base + 6] as usize + 2 * j]
+}
+
 pub fn entry_literal_at(area: &[u64], n: usize, sentences: usize, base: usize, j: usize) -> u64
     requires { (base + 8 ≤ length area.now) × (entry_at area.now n sentences base + 2 * j + 1 < length area.now) }
     ensures { result ≡ entry_literal_at area.now n sentences base j }

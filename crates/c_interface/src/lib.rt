@@ -1,7 +1,7 @@
 // What the functions for C share: one number for code and value, and numbers put at the front of lent words.
 #![tactic(auto)]
 
-ghost use Rattle.std.specs.Prelude.{◌≡◌, [], ◌∷◌, ◌<◌, ◌≤◌, length as type_size};
+ghost use Rattle.std.specs.Prelude.{◌≡◌, [], ◌∷◌, ◌<◌, ◌≤◌, length as list_length};
 ghost use Rattle.c_interface.specs.Interface.{packed, one_number, fronted};
 
 // The value in front of the code, which has the low byte.
@@ -28,7 +28,7 @@ pub fn early(code: u64, value: u64, needed: usize, room: usize) -> u64
 
 // Two words at the front.
 pub fn put_two(next: &mut [u64], a: u64, b: u64)
-    requires { 2 ≤ type_size next.old }
+    requires { 2 ≤ list_length next.old }
     ensures { next.new ≡ fronted (a ∷ b ∷ []) next.old }
 {
     next[0] = a;
@@ -37,7 +37,7 @@ pub fn put_two(next: &mut [u64], a: u64, b: u64)
 
 // Three words at the front.
 pub fn put_three(next: &mut [u64], a: u64, b: u64, c: u64)
-    requires { 3 ≤ type_size next.old }
+    requires { 3 ≤ list_length next.old }
     ensures { next.new ≡ fronted (a ∷ b ∷ c ∷ []) next.old }
 {
     next[0] = a;
@@ -47,7 +47,7 @@ pub fn put_three(next: &mut [u64], a: u64, b: u64, c: u64)
 
 // Four words at the front.
 pub fn put_four(next: &mut [u64], a: u64, b: u64, c: u64, d: u64)
-    requires { 4 ≤ type_size next.old }
+    requires { 4 ≤ list_length next.old }
     ensures { next.new ≡ fronted (a ∷ b ∷ c ∷ d ∷ []) next.old }
 {
     next[0] = a;

@@ -1,7 +1,7 @@
 // The reports, for C, under given limits.
 #![tactic(auto)]
 
-ghost use Rattle.std.specs.Prelude.{◌≡◌, [], ◌∷◌, ◌≤◌, pos, length as type_size};
+ghost use Rattle.std.specs.Prelude.{◌≡◌, [], ◌∷◌, ◌≤◌, pos, length as list_length};
 ghost use Rattle.types.specs.Limits.{Fitting};
 ghost use Rattle.book.specs.Table.{bounds, explain, explain_conflict, origin, list_trail};
 ghost use Rattle.whole.specs.Parts.{counters_with};
@@ -12,7 +12,7 @@ use types::{Counters, Level, Limits, Sentence};
 
 // Each bound's mark and number at the front.
 fn put_bounds(out: &mut [i64], found: Bounds)
-    requires { (4 ≤ type_size out.old) × (found.least_mark ≤ 2) × (found.greatest_mark ≤ 2) }
+    requires { (4 ≤ list_length out.old) × (found.least_mark ≤ 2) × (found.greatest_mark ≤ 2) }
     ensures { out.new ≡ fronted (pos found.least_mark ∷ found.least ∷ pos found.greatest_mark ∷ found.greatest ∷ []) out.old }
 {
     let least = found.least;

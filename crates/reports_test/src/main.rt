@@ -5,6 +5,36 @@
 use calls::Listed;
 use types::{Atom, Counters, Sentence};
 
+// The literals given, with no line for each.
+fn give_all(area: &mut [u64], literals: &[i64]) -> Counters {
+    let mut now = test_parts::start();
+    for literal in literals {
+        let r = dalelead::give(area, now, *literal);
+        now = r.counters;
+    }
+    now
+}
+
+// The ring, loaded, with no line.
+fn load_ring(area: &mut [u64]) {
+    let heads = test_parts::ring_heads();
+    let literals = test_parts::ring_literals();
+    let zeros = [0u64; 256];
+    let ones = [1i64; 256];
+    let counts = [1u64; 256];
+    dalelead::load(
+        area,
+        Atom(256),
+        &heads,
+        &zeros,
+        &zeros,
+        &ones,
+        &counts,
+        &ones,
+        &literals,
+    );
+}
+
 // What a list call answers: its code, its value, and the list.
 fn show(name: &[u8], answer: Listed, list: &[i64]) {
     io::write_all(1, name);
@@ -67,7 +97,7 @@ fn explained(area: &[u64], counters: Counters) {
 fn m4() {
     let mut area = [0u64; 24];
     load_m4(&mut area);
-    let given = test_parts::give_all(&mut area, &[3i64, 1]);
+    let given = give_all(&mut area, &[3i64, 1]);
     let after = test_parts::show_propagate(&mut area, given);
     explained(&area, after);
     origin(&area, after, -2, &mut [0i64; 2]);
@@ -78,7 +108,7 @@ fn m4() {
 fn m5() {
     let mut area = [0u64; 24];
     load_m4(&mut area);
-    let given = test_parts::give_all(&mut area, &[3i64, 1, 2]);
+    let given = give_all(&mut area, &[3i64, 1, 2]);
     let after = test_parts::show_propagate(&mut area, given);
     conflict(&area, after, 1, &mut [0i64; 4]);
     conflict(&area, after, 1, &mut [0i64; 2]);
@@ -89,7 +119,7 @@ fn m5() {
 fn m12() {
     let mut area = [0u64; 28];
     test_parts::load_two(&mut area);
-    let given = test_parts::give_all(&mut area, &[1i64]);
+    let given = give_all(&mut area, &[1i64]);
     let after = test_parts::show_propagate(&mut area, given);
     explain(&area, after, 2, &mut [0i64; 2]);
     origin(&area, after, 2, &mut [0i64; 2]);
@@ -98,8 +128,8 @@ fn m12() {
 
 fn ring() {
     let mut area = [0u64; 3584];
-    test_parts::load_ring(&mut area);
-    let given = test_parts::give_all(&mut area, &[1i64]);
+    load_ring(&mut area);
+    let given = give_all(&mut area, &[1i64]);
     let after = test_parts::show_propagate(&mut area, given);
     origin(&area, after, 2, &mut [0i64; 4]);
     origin(&area, after, 256, &mut [0i64; 4]);
@@ -176,7 +206,7 @@ fn diamonds() {
     io::write_all(1, b"diamonds ");
     io::print_decimal(1, loaded.code);
     io::write_all(1, b"\n");
-    let given = test_parts::give_all(&mut area, &[1i64]);
+    let given = give_all(&mut area, &[1i64]);
     let after = test_parts::show_propagate(&mut area, given);
     explain(&area, after, 256, &mut [0i64; 4]);
     origin(&area, after, 256, &mut [0i64; 4]);

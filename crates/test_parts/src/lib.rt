@@ -93,7 +93,7 @@ pub fn load_two(area: &mut [u64]) {
 }
 
 // A ring of 256: sentence i has head i and in its set atom i + 1; the last has the first.
-fn ring_heads() -> [u64; 256] {
+pub fn ring_heads() -> [u64; 256] {
     let mut heads = [0u64; 256];
     let mut i: usize = 0;
     while i < 256 {
@@ -103,7 +103,7 @@ fn ring_heads() -> [u64; 256] {
     heads
 }
 
-fn ring_literals() -> [i64; 256] {
+pub fn ring_literals() -> [i64; 256] {
     let mut literals = [1i64; 256];
     let mut i: usize = 0;
     while i < 255 {
