@@ -1,8 +1,7 @@
 -- By the sign.
-use mathlib.Core.Path.{◌≡◌, sym, ap, ◌∙◌}
+use mathlib.Core.Path.{sym, ap, ◌∙◌}
 use lib.IntN.{nat_abs}
 use mir.Syntax.{w64}
-use mir.Val.{to_z, of_z}
 use mir.ValLaws.{to_z-of_z}
 use Rattle.signed.specs.Inner.Sign.{is_negative}
 use Rattle.pages.proofs.Numbers.{negative_written, natural_written}
