@@ -107,7 +107,7 @@ module _ (lim : Limits) (fit : Fitting lim) (b : Book) (w : List ℕ) (c : t.Cou
 -- ---- the claim
 
 -- the book after the calls
-abbrev pub book_then : Limits → Judgement → ℕ → List Sentence → List Event → Book
+abbrev book_then : Limits → Judgement → ℕ → List Sentence → List Event → Book
 book_then lim j n ss es = book_after lim j (fresh n ss) (asked_in es)
 
 pub history : (lim : Limits) → Fitting lim → History lim
@@ -182,22 +182,22 @@ module _ {lim : Limits} {n : ℕ} {ss : List Sentence} {loaded : List ℕ} {es :
   origins_of_load = h.originated
 
   -- and of those that the book then holds, whoever judges
-  of_book : (j : Judgement) (P : List Sentence → Type 0) → P ss → P (book_then lim j n ss es).sentences
+  of_book : (j : Judgement) (P : List Sentence → Type 0) → P ss → P (book_after lim j (fresh n ss) (asked_in es)).sentences
   of_book j P = subst P (sym (played_sentences lim j (fresh n ss) (asked_in es)))
 
-  pub bounds_of_book : (j : Judgement) → Judging j → (s : ℕ) → s < length (book_then lim j n ss es).sentences
-      → Bounded (book_then lim j n ss es).sentences (trail (rows_of w)) (suc s) (unword (least_at w (record_at n s))) (unword (greatest_at w (record_at n s)))
+  pub bounds_of_book : (j : Judgement) → Judging j → (s : ℕ) → s < length (book_after lim j (fresh n ss) (asked_in es)).sentences
+      → Bounded (book_after lim j (fresh n ss) (asked_in es)).sentences (trail (rows_of w)) (suc s) (unword (least_at w (record_at n s))) (unword (greatest_at w (record_at n s)))
   bounds_of_book j m =
       of_book j (λ xs. (s : ℕ) → s < length xs → Bounded xs (trail (rows_of w)) (suc s) (unword (least_at w (record_at n s))) (unword (greatest_at w (record_at n s)))) h.bounds_are
 
   pub explained_of_book : (j : Judgement) → Judging j → (l : ℤ) (old new : List ℤ) (r : Listed) → ListsExplanation lim w c l old new r → r.code ≡ 0
-      → Explains (book_then lim j n ss es).sentences (rows_of w) l (take r.value new)
+      → Explains (book_after lim j (fresh n ss) (asked_in es)).sentences (rows_of w) l (take r.value new)
   explained_of_book j m l old new r a z = of_book j (λ xs. Explains xs (rows_of w) l (take r.value new)) (h.explained l old new r a z)
 
   pub conflict_of_book : (j : Judgement) → Judging j → (k : ℕ) (old new : List ℤ) (r : Listed) → ListsConflict lim w c k old new r → r.code ≡ 0
-      → ExplainsConflict (book_then lim j n ss es).sentences (rows_of w) k (take r.value new)
+      → ExplainsConflict (book_after lim j (fresh n ss) (asked_in es)).sentences (rows_of w) k (take r.value new)
   conflict_of_book j m k old new r a z = of_book j (λ xs. ExplainsConflict xs (rows_of w) k (take r.value new)) (h.conflict_explained k old new r a z)
 
   pub origins_of_book : (j : Judgement) → Judging j → (l : ℤ) (old new : List ℤ) (r : Listed) → ListsOrigin lim w c l old new r → r.code ≡ 0
-      → OriginList (book_then lim j n ss es).sentences (rows_of w) l (take r.value new)
+      → OriginList (book_after lim j (fresh n ss) (asked_in es)).sentences (rows_of w) l (take r.value new)
   origins_of_book j m l old new r a z = of_book j (λ xs. OriginList xs (rows_of w) l (take r.value new)) (h.originated l old new r a z)
