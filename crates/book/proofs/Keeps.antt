@@ -107,12 +107,7 @@ module _ (x : Bool) (n top : ℕ) (ss : List Sentence) (js : List Judged) (w : E
 
 module _ {A : Type 0} (stored : Sentence → A) where
   pub theory_stays : (x : Call) (a : Answer) (ts : List A) → theory_after stored x a ts ≡ ts
-  theory_stays (a_step (give l)) a ts = refl
-  theory_stays (a_step open_level) a ts = refl
-  theory_stays (a_step (take_back k)) a ts = refl
-  theory_stays (a_step propagate) a ts = refl
-  theory_stays (a_step (search ls)) a ts = refl
-  theory_stays (a_report x room) a ts = refl
+  theory_stays x a ts = refl
 
 -- a book that was just loaded is sound, and so is every book that calls leave
 module _ (lim : Limits) (j : Judgement) where

@@ -8,7 +8,7 @@ use Rattle.meaning.specs.Merge.{Rule, rule_of, scope}
 use Rattle.meaning.specs.Computed.{extreme, first_said}
 use Rattle.types.specs.declared.Limits.{Limits}
 use Rattle.book.specs.Rows.{Row}
-use Rattle.book.specs.Table.{Step, give, open_level, take_back, propagate, search, Call, a_step, a_report, Answer, Judged, State, Outcome, reply}
+use Rattle.book.specs.Table.{Call, Answer, Judged, State, Outcome, reply}
 
 -- ---- the sentences that the book may hold: atoms are 1 to N
 
@@ -93,18 +93,10 @@ book_state lim j b size c =
 abbrev pub outcome_of : Limits → Judgement → Book → Asked → Outcome
 outcome_of lim j b a = reply (book_state lim j b a.size a.counters) a.call
 
--- the sentences after a call and its answer, whatever stands for a sentence: no step of document 01 changes them
+-- the sentences after a call and its answer, whatever stands for a sentence: no call of document 01 changes them
 module _ {A : Type 0} (stored : Sentence → A) where
-  abbrev pub step_theory : Step → Answer → List A → List A
-  step_theory (give l) a ts = ts
-  step_theory open_level a ts = ts
-  step_theory (take_back k) a ts = ts
-  step_theory propagate a ts = ts
-  step_theory (search ls) a ts = ts
-
   abbrev pub theory_after : Call → Answer → List A → List A
-  theory_after (a_step x) a ts = step_theory x a ts
-  theory_after (a_report x room) a ts = ts
+  theory_after x a ts = ts
 
 abbrev pub after : Book → Call → Outcome → Book
 after b x o = record { atoms = b.atoms; sentences = theory_after (λ s. s) x o.answer b.sentences; level = o.level; rows = o.rows }

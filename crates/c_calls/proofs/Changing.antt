@@ -17,7 +17,7 @@ use Rattle.book.specs.Book.{Counters}
 use Rattle.area.specs.Layout.{atoms_of, length_of, level_of, rows_of}
 use Rattle.area.specs.Whole.{Whole}
 use Rattle.whole.specs.Parts.{counters_with}
-use Rattle.calls.specs.Calls.{area_state, is_refusal, idle, unmoved, LeftBy, Acts}
+use Rattle.calls.specs.Calls.{area_state, is_refusal, idle, unmoved, Moved, Acts}
 use Rattle.trail_check.proofs.Rows.{rows_length}
 use Rattle.trail.proofs.Rows.{up_to_all}
 use Rattle.give.specs.Inner.Refused.{refusal_code}
@@ -156,7 +156,7 @@ module _ {lim : Limits} {w : List ℕ} {c : Counters} {x : Step} {handed : Count
               absurd (subst T (ap₂ {A = Bool} {B = Bool} (λ u v. not u || v) (eq-eqb (numbers lim w x).code 0 pass) (le-ltb (length out) (size lim w x handed) enough)) t);
           written = λ _ _. front ∙ ap₂ {A = Counters} {B = Returned} (λ d u. fronted (handed d u) out) (counts lim w c x asked.whole passed a) is;
           idle = λ g t. (a.kept g t).0;
-          moved = λ g t _. subst (λ (d : Counters). LeftBy lim w w' d (a_step x) (outcome lim w x)) (counts lim w c x asked.whole passed a) (a.moved g t);
+          moved = λ g t _. subst (λ (d : Counters). Moved lim w w' d (outcome lim w x)) (counts lim w c x asked.whole passed a) (a.moved g t);
         }
 
 -- ---- codes are small

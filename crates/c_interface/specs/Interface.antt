@@ -5,7 +5,7 @@ use Rattle.types.specs.declared.Limits.{Limits}
 use Rattle.book.specs.Table.{Step, Report, a_step, a_report, bounds_of, listed, Answer, refused, done, still, conflict_in, searched, reported, Returned, returned_by, list_after, infinity, number, Outcome, reply}
 use Rattle.book.specs.Book.{Counters}
 use Rattle.area.specs.Whole.{Whole}
-use Rattle.calls.specs.Calls.{area_state, unmoved, LeftBy}
+use Rattle.calls.specs.Calls.{area_state, unmoved, Moved}
 use Rattle.columns.specs.Columns.{Columns}
 use Rattle.columns.specs.Refusals.{load_answer}
 use Rattle.columns.specs.declared.Answer as c
@@ -46,7 +46,7 @@ pub record ChangesTo (o : Outcome) (given : List ℕ) (lim : Limits) (w w' : Lis
   pub written : Whole lim w c → T (not (refuses (returned_by o.answer) (length given) (length out))) → out' ≡ fronted given out
   -- taking back to the current level keeps the words too
   pub idle : Whole lim w c → T (unmoved (area_state lim w) x) → w' ≡ w
-  pub moved : Whole lim w c → T (not (unmoved (area_state lim w) x)) → T (not (ltb (length out) (length given))) → LeftBy lim w w' (after o) (a_step x) o
+  pub moved : Whole lim w c → T (not (unmoved (area_state lim w) x)) → T (not (ltb (length out) (length given))) → Moved lim w w' (after o) o
 
 -- `handed` says by the counters after the call and the table's numbers what is handed back
 abbrev pub Changes : Limits → (w w' : List ℕ) → Counters → Step → (handed : Counters → Returned → List ℕ) → (out out' : List ℕ) → (r : ℕ) → Type 0

@@ -10,7 +10,7 @@ use Rattle.book.specs.Table.{Step, bounds, Call, a_step, a_report, Answer, refus
 use Rattle.book.specs.Book.{Counters}
 use Rattle.book.proofs.Tests.{reply_is}
 use Rattle.area.specs.Whole.{Whole}
-use Rattle.calls.specs.Calls.{area_state, is_refusal, idle, unmoved, Answered, LeftBy, Acts, Reports}
+use Rattle.calls.specs.Calls.{area_state, is_refusal, idle, unmoved, Answered, Moved, Acts, Reports}
 
 module _ (lim : Limits) (w : List ℕ) (c : Counters) (x : Call) (p : Returned) where
   pub answered_nine : ¬ (Whole lim w c) → p ≡ returned_by (refused 9 0) → Answered lim w c x p
@@ -37,7 +37,7 @@ module _ (lim : Limits) (w : List ℕ) (c : Counters) (x : Step) (p : Returned) 
   }
 
   pub acts_moved : (w' : List ℕ) (c' : Counters) → Whole lim w c → T (not (unmoved (area_state lim w) x)) → p ≡ returned_by (reply (area_state lim w) (a_step x)).answer
-      → LeftBy lim w w' c' (a_step x) (reply (area_state lim w) (a_step x)) → Acts lim w w' c c' x p
+      → Moved lim w w' c' (reply (area_state lim w) (a_step x)) → Acts lim w w' c c' x p
   acts_moved w' c' h m e v = record {
     answer = answered_whole lim w c (a_step x) p h e;
     broken = λ b. absurd (b h);

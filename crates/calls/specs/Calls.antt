@@ -1,11 +1,10 @@
 -- The contracts of the calls after load: document 01's table (`reply`) at the state that is read off the work area, and what happens to
 -- the words. `w` and `w'` are the words before and after, `c` the counters that the call got, `c'` those that it hands back.
-use Rattle.std.specs.Prelude.{◌≡◌, Bool, true, false, not, ◌||◌, List, ℕ, max, length, drop, ℤ, pos, T, eqb}
+use Rattle.std.specs.Prelude.{◌≡◌, Bool, true, false, not, ◌||◌, List, ℕ, length, drop, ℤ, pos, T, eqb}
 use Rattle.types.specs.declared.Limits.{Limits}
 use Rattle.types.specs.declared.Counters as t
-use Rattle.meaning.specs.Merge.{Rule, rule_of}
 use Rattle.book.specs.Table.{Step, give, open_level, take_back, propagate, search, Report, Call, a_step, a_report, Answer, refused, done, still, conflict_in, searched, reported, Returned, returned_by, list_after, State, Outcome, reply}
-use Rattle.book.specs.Book.{Counters, judged_all, theory_after}
+use Rattle.book.specs.Book.{Counters, judged_all}
 use Rattle.area.specs.Layout.{atoms_of, level_of, rows_of, theory_of, need_of}
 use Rattle.area.specs.Whole.{Whole}
 use Rattle.calls.specs.declared.Done.{Done}
@@ -60,30 +59,21 @@ idle q (search ls) = false
 abbrev pub unmoved : State → Step → Bool
 unmoved q x = is_refusal (reply q (a_step x)).answer || idle q x
 
--- a whole area with these rules, and the level and rows of the outcome; atoms and the words past the most that was needed before and after
--- as they were. Pending marks are open
-pub record Leaves (lim : Limits) (w w' : List ℕ) (c' : Counters) (rules : List Rule) (o : Outcome) : Type 0 where
+-- a whole area with the level and rows of the outcome; theory, atoms and the words past the need as they were. Pending marks are open
+pub record Moved (lim : Limits) (w w' : List ℕ) (c' : Counters) (o : Outcome) : Type 0 where
   pub whole : Whole lim w' c'
   pub atoms : atoms_of w' ≡ atoms_of w
-  pub theory : theory_of w' ≡ rules
+  pub theory : theory_of w' ≡ theory_of w
   pub level : level_of w' ≡ o.level
   pub rows : rows_of w' ≡ o.rows
   pub size : length w' ≡ length w
-  pub rest : drop (max (need_of w) (need_of w')) w' ≡ drop (max (need_of w) (need_of w')) w
-
--- with the rules after the call, as the book has its sentences
-abbrev pub LeftBy : Limits → (w w' : List ℕ) → Counters → Call → Outcome → Type 0
-LeftBy lim w w' c' x o = Leaves lim w w' c' (theory_after rule_of x o.answer (theory_of w)) o
-
--- with the rules as they were
-abbrev pub Moved : Limits → (w w' : List ℕ) → Counters → Outcome → Type 0
-Moved lim w w' c' o = Leaves lim w w' c' (theory_of w) o
+  pub rest : drop (need_of w) w' ≡ drop (need_of w) w
 
 pub record Acts (lim : Limits) (w w' : List ℕ) (c c' : Counters) (x : Step) (p : Returned) : Type 0 where
   pub answer : Answered lim w c (a_step x) p
   pub broken : ¬ (Whole lim w c) → (w' ≡ w) × (c' ≡ c)
   pub kept : Whole lim w c → T (unmoved (area_state lim w) x) → (w' ≡ w) × (c' ≡ c)
-  pub moved : Whole lim w c → T (not (unmoved (area_state lim w) x)) → LeftBy lim w w' c' (a_step x) (reply (area_state lim w) (a_step x))
+  pub moved : Whole lim w c → T (not (unmoved (area_state lim w) x)) → Moved lim w w' c' (reply (area_state lim w) (a_step x))
 
 -- ---- reports, which change no word of the area: `old` and `new` are the lent list before and after, empty where there is none
 

@@ -20,7 +20,6 @@ use Rattle.whole.proofs.Join.{parts}
 use Rattle.whole.proofs.Frame.{same_record}
 use Rattle.whole.proofs.Theories.{SameTheory, theory_behind, rule_stays}
 use Rattle.refresh.proofs.WholeNext.{RenewedWhole}
-use Rattle.give.proofs.Moves.{rest_past}
 
 pub whole_stands : (lim : Limits) (w : List ℕ) (len level : ℕ) → Fitting lim → Whole lim w (counters_with len level) → TrailReady lim w (atoms_of w) len level
 whole_stands lim w len level f h =
@@ -59,12 +58,12 @@ module _ (lim : Limits) (w w' : List ℕ) (c : Counters) (h : Whole lim w c) (si
 
 pub renewed_moved : {lim : Limits} {w₀ w w' : List ℕ} {len level : ℕ} (o : Outcome) → RenewedWhole lim w₀ w w' len level → level ≡ o.level
     → rows_from w (atoms_of w₀) len ≡ o.rows → Moved lim w₀ w' (counters_with len level) o
-renewed_moved {w₀ = w₀} {w' = w'} o r v e = record {
+renewed_moved o r v e = record {
   whole = r.whole;
   atoms = r.atoms;
   theory = r.theory;
   level = r.level_is ∙ v;
   rows = r.rows ∙ e;
   size = r.size;
-  rest = rest_past w₀ w' r.need r.rest;
+  rest = r.rest;
 }

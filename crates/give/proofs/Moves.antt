@@ -3,7 +3,7 @@
 use mathlib.Core.Path.{◌≡◌, refl, sym, ap, ◌∙◌, subst}
 use mathlib.Core.Bool.{false}
 use mathlib.Core.List.{List}
-use Prim.Native.Nat.{ℕ, ◌≤◌, max}
+use Prim.Native.Nat.{ℕ, ◌≤◌}
 use native.Mathlib.Omega.{arith}
 use lib.ListN.{length, drop}
 use Rattle.types.specs.declared.Limits.{Limits}
@@ -40,15 +40,6 @@ state_after {lim} {w} {w'} {c'} {o} m =
     ∙ ap {A = ℕ} (λ v. state lim (atoms_of w) (theory_of w) v (rows_of w')) m.level
     ∙ ap {A = List Row} (λ r. state lim (atoms_of w) (theory_of w) o.level r) m.rows
 
--- what was needed stays
-pub rest_past : (w w' : List ℕ) → need_of w' ≡ need_of w → drop (need_of w) w' ≡ drop (need_of w) w
-    → drop (max (need_of w) (need_of w')) w' ≡ drop (max (need_of w) (need_of w')) w
-rest_past w w' e r = let q : need_of w ≡ max (need_of w) (need_of w') = omega (arith, e) in subst (λ k. drop k w' ≡ drop k w) q r
-
-pub rest_of : {lim : Limits} {w w' : List ℕ} {c' : Counters} {o : Outcome} → Moved lim w w' c' o → drop (need_of w) w' ≡ drop (need_of w) w
-rest_of {w = w} {w' = w'} m =
-    let q : max (need_of w) (need_of w') ≡ need_of w = omega (arith, need_same w w' m.atoms m.theory) in subst (λ k. drop k w' ≡ drop k w) q m.rest
-
 pub moved_twice : {lim : Limits} {w w₁ w₂ : List ℕ} {c₁ c₂ : Counters} {o₁ o₂ : Outcome} → Moved lim w w₁ c₁ o₁ → Moved lim w₁ w₂ c₂ o₂ → Moved lim w w₂ c₂ o₂
 moved_twice {lim} {w} {w₁} {w₂} m n =
     let e : need_of w₁ ≡ need_of w = need_same w w₁ m.atoms m.theory in
@@ -59,7 +50,7 @@ moved_twice {lim} {w} {w₁} {w₂} m n =
       level = n.level;
       rows = n.rows;
       size = n.size ∙ m.size;
-      rest = rest_past w w₂ (need_same w₁ w₂ n.atoms n.theory ∙ e) (subst (λ k. drop k w₂ ≡ drop k w₁) e (rest_of n) ∙ rest_of m);
+      rest = subst (λ k. drop k w₂ ≡ drop k w₁) e n.rest ∙ m.rest;
     }
 
 -- another outcome with the same level and rows

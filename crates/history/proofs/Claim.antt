@@ -14,7 +14,7 @@ use Rattle.numbers.specs.Words.{unword}
 use Rattle.meaning.specs.Meaning.{Sentence, Each}
 use Rattle.book.specs.Rows.{Row, trail}
 use Rattle.book.specs.Table.{Report, explain, explain_conflict, origin, a_report, Answer, reported, list_of, returned_by, list_after, State, result_of, reply}
-use Rattle.book.specs.Book.{Counters, WellFormed, Judgement, Judging, computed, rules_of, Book, fresh, need, book_state}
+use Rattle.book.specs.Book.{Counters, WellFormed, Judgement, Judging, computed, rules_of, Book, fresh, need, book_state, book_after}
 use Rattle.book.specs.Means.{Bounded, Explains, ExplainsConflict, OriginList}
 use Rattle.book.proofs.Tests.{reply_is}
 use Rattle.book.proofs.Judged.{computed_right}
@@ -32,7 +32,7 @@ use Rattle.reports.proofs.Meaning.{bounds_mean}
 use Rattle.columns.specs.Columns.{all_written, sentences_in}
 use Rattle.columns.specs.declared.Answer as load
 use Rattle.dalelead.specs.Public.{ListsExplanation, ListsConflict, ListsOrigin}
-use Rattle.history.specs.History.{Event, asked_in, HandedBack, book_then, Claim, History}
+use Rattle.history.specs.History.{Event, asked_in, HandedBack, Claim, History}
 use Rattle.history.proofs.Sentences.{loaded_well_formed, sentences_are}
 use Rattle.history.proofs.Stands.{Stands, whole_fits, state_is}
 use Rattle.history.proofs.Steps.{played_atoms, Followed, followed}
@@ -106,6 +106,10 @@ module _ (lim : Limits) (fit : Fitting lim) (b : Book) (w : List ℕ) (c : t.Cou
 
 -- ---- the claim
 
+-- the book after the calls
+abbrev book_then : Limits → Judgement → ℕ → List Sentence → List Event → Book
+book_then lim j n ss es = book_after lim j (fresh n ss) (asked_in es)
+
 pub history : (lim : Limits) → Fitting lim → History lim
 history lim fit w₀ w n columns r loads code es w' c calls = record {
   answers_are = λ j m. subst (HandedBack es) (answers_same lim computed j computed_right m first well tt (asked_in es)) f.handed;
@@ -120,13 +124,15 @@ history lim fit w₀ w n columns r loads code es w' c calls = record {
   counters =
       ap₂ {A = ℕ} {B = ℕ} {C = Counters} (λ k v. record { length_is = k; level_is = v })
       (sym (rows_count lim w' (counted c) f.stands.whole)) (sym f.stands.whole.level_is);
-  bounds_are = λ j m. subst (λ a. (s : ℕ) → s < length (book_then lim j n ss es).sentences
-      → Bounded (book_then lim j n ss es).sentences (trail (rows_of w')) (suc s) (unword (least_at w' (record_at a s))) (unword (greatest_at w' (record_at a s))))
-      (played_atoms lim j first (asked_in es)) (bounds_right lim fit (book_then lim j n ss es) w' c (at j m));
-  explained = λ j m. explained_right lim fit (book_then lim j n ss es) w' c (at j m);
-  conflict_explained = λ j m. conflict_right lim fit (book_then lim j n ss es) w' c (at j m);
-  origin_answered = origin_has_answer lim fit (book_then lim computed n ss es) w' c f.stands;
-  originated = λ j m. origin_right lim fit (book_then lim j n ss es) w' c (at j m);
+  bounds_are = live (λ xs. (s : ℕ) → s < length xs → Bounded xs (trail (rows_of w')) (suc s) (unword (least_at w' (record_at n s))) (unword (greatest_at w' (record_at n s))))
+      (subst (λ a. (s : ℕ) → s < length last.sentences
+      → Bounded last.sentences (trail (rows_of w')) (suc s) (unword (least_at w' (record_at a s))) (unword (greatest_at w' (record_at a s))))
+      (played_atoms lim computed first (asked_in es)) (bounds_right lim fit last w' c f.stands));
+  explained = λ l old new r a z. live (λ xs. Explains xs (rows_of w') l (take r.value new)) (explained_right lim fit last w' c f.stands l old new r a z);
+  conflict_explained = λ k old new r a z.
+      live (λ xs. ExplainsConflict xs (rows_of w') k (take r.value new)) (conflict_right lim fit last w' c f.stands k old new r a z);
+  origin_answered = origin_has_answer lim fit last w' c f.stands;
+  originated = λ l old new r a z. live (λ xs. OriginList xs (rows_of w') l (take r.value new)) (origin_right lim fit last w' c f.stands l old new r a z);
 }
   where
     ss : List Sentence
@@ -143,30 +149,55 @@ history lim fit w₀ w n columns r loads code es w' c calls = record {
         let l = loads.accepted code in
         followed lim first calls (record { whole = l.whole; atoms = l.atoms; theory = l.theory; level = l.level; rows = l.rows; well = well; sound = tt })
 
+    last : Book
+    last = book_then lim computed n ss es
+
+    -- what holds of the sentences that the book then holds is of the load's
+    live : (P : List Sentence → Type 0) → P last.sentences → P ss
+    live P = subst P (played_sentences lim computed first (asked_in es))
+
     at : (j : Judgement) → Judging j → Stands lim (book_then lim j n ss es) w' (counted c)
     at j m = subst (λ b. Stands lim b w' (counted c)) (played_same lim computed j computed_right m first well tt (asked_in es)) f.stands
 
--- ---- today no call changes the sentences: these are the load's
+-- ---- no call of document 01 changes the sentences: those that the book then holds are the load's
 
 module _ {lim : Limits} {n : ℕ} {ss : List Sentence} {loaded : List ℕ} {es : List Event} {w : List ℕ} {c : t.Counters} (h : Claim lim n ss loaded es w c) where
-  of_load : (P : List Sentence → Type 0) → ((j : Judgement) → Judging j → P (book_then lim j n ss es).sentences) → P ss
-  of_load P p = subst P (played_sentences lim computed (fresh n ss) (asked_in es)) (p computed h.judged)
-
   pub theory_is : theory_of w ≡ rules_of ss
-  theory_is = of_load (λ xs. theory_of w ≡ rules_of xs) h.theory
+  theory_is = subst (λ xs. theory_of w ≡ rules_of xs) (played_sentences lim computed (fresh n ss) (asked_in es)) (h.theory computed h.judged)
 
   pub past_need_is : drop (need n ss) w ≡ drop (need n ss) loaded
   past_need_is = subst (λ k. drop k w ≡ drop k loaded) (reach_is lim computed (fresh n ss) (asked_in es)) (h.past_need computed h.judged)
 
+  -- what the claim says of the load's sentences, field by field
   pub bounds_of_load : (s : ℕ) → s < length ss → Bounded ss (trail (rows_of w)) (suc s) (unword (least_at w (record_at n s))) (unword (greatest_at w (record_at n s)))
-  bounds_of_load =
-      of_load (λ xs. (s : ℕ) → s < length xs → Bounded xs (trail (rows_of w)) (suc s) (unword (least_at w (record_at n s))) (unword (greatest_at w (record_at n s)))) h.bounds_are
+  bounds_of_load = h.bounds_are
 
   pub explained_of_load : (l : ℤ) (old new : List ℤ) (r : Listed) → ListsExplanation lim w c l old new r → r.code ≡ 0 → Explains ss (rows_of w) l (take r.value new)
-  explained_of_load l old new r a z = of_load (λ xs. Explains xs (rows_of w) l (take r.value new)) (λ j m. h.explained j m l old new r a z)
+  explained_of_load = h.explained
 
   pub conflict_of_load : (k : ℕ) (old new : List ℤ) (r : Listed) → ListsConflict lim w c k old new r → r.code ≡ 0 → ExplainsConflict ss (rows_of w) k (take r.value new)
-  conflict_of_load k old new r a z = of_load (λ xs. ExplainsConflict xs (rows_of w) k (take r.value new)) (λ j m. h.conflict_explained j m k old new r a z)
+  conflict_of_load = h.conflict_explained
 
   pub origins_of_load : (l : ℤ) (old new : List ℤ) (r : Listed) → ListsOrigin lim w c l old new r → r.code ≡ 0 → OriginList ss (rows_of w) l (take r.value new)
-  origins_of_load l old new r a z = of_load (λ xs. OriginList xs (rows_of w) l (take r.value new)) (λ j m. h.originated j m l old new r a z)
+  origins_of_load = h.originated
+
+  -- and of those that the book then holds, whoever judges
+  of_book : (j : Judgement) (P : List Sentence → Type 0) → P ss → P (book_after lim j (fresh n ss) (asked_in es)).sentences
+  of_book j P = subst P (sym (played_sentences lim j (fresh n ss) (asked_in es)))
+
+  pub bounds_of_book : (j : Judgement) → Judging j → (s : ℕ) → s < length (book_after lim j (fresh n ss) (asked_in es)).sentences
+      → Bounded (book_after lim j (fresh n ss) (asked_in es)).sentences (trail (rows_of w)) (suc s) (unword (least_at w (record_at n s))) (unword (greatest_at w (record_at n s)))
+  bounds_of_book j m =
+      of_book j (λ xs. (s : ℕ) → s < length xs → Bounded xs (trail (rows_of w)) (suc s) (unword (least_at w (record_at n s))) (unword (greatest_at w (record_at n s)))) h.bounds_are
+
+  pub explained_of_book : (j : Judgement) → Judging j → (l : ℤ) (old new : List ℤ) (r : Listed) → ListsExplanation lim w c l old new r → r.code ≡ 0
+      → Explains (book_after lim j (fresh n ss) (asked_in es)).sentences (rows_of w) l (take r.value new)
+  explained_of_book j m l old new r a z = of_book j (λ xs. Explains xs (rows_of w) l (take r.value new)) (h.explained l old new r a z)
+
+  pub conflict_of_book : (j : Judgement) → Judging j → (k : ℕ) (old new : List ℤ) (r : Listed) → ListsConflict lim w c k old new r → r.code ≡ 0
+      → ExplainsConflict (book_after lim j (fresh n ss) (asked_in es)).sentences (rows_of w) k (take r.value new)
+  conflict_of_book j m k old new r a z = of_book j (λ xs. ExplainsConflict xs (rows_of w) k (take r.value new)) (h.conflict_explained k old new r a z)
+
+  pub origins_of_book : (j : Judgement) → Judging j → (l : ℤ) (old new : List ℤ) (r : Listed) → ListsOrigin lim w c l old new r → r.code ≡ 0
+      → OriginList (book_after lim j (fresh n ss) (asked_in es)).sentences (rows_of w) l (take r.value new)
+  origins_of_book j m l old new r a z = of_book j (λ xs. OriginList xs (rows_of w) l (take r.value new)) (h.originated l old new r a z)

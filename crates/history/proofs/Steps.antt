@@ -20,7 +20,7 @@ use Rattle.book.proofs.Keeps.{theory_stays, turn_well, turn_sound}
 use Rattle.area.specs.Layout.{rows_of, need_of}
 use Rattle.whole.proofs.Gives.{need_stays}
 use Rattle.whole.proofs.Need.{cut_whole, grown_whole}
-use Rattle.calls.specs.Calls.{counted, area_state, LeftBy}
+use Rattle.calls.specs.Calls.{counted, area_state, Moved}
 use Rattle.history.specs.History.{Event, Called, Calls, none, next, asked_in, HandsBack, HandedBack}
 use Rattle.history.proofs.Replies.{nine}
 use Rattle.history.proofs.Ways.{asked_is, called_broken, called_whole}
@@ -82,7 +82,7 @@ module _ (lim : Limits) where
         let o : reply (area_state lim part) e.asked.call ≡ outcome_of lim computed b e.asked =
         ap {A = State} (λ q. reply q e.asked.call) (state_is lim b part (counted c) here (length part) (counted d) f)
         ∙ ap {A = Asked} (outcome_of lim computed b) (sym (asked_is p)) in
-        let m : LeftBy lim part part' (counted c') e.asked.call (outcome_of lim computed b e.asked) = subst (LeftBy lim part part' (counted c') e.asked.call) o r.left in
+        let m : Moved lim part part' (counted c') (outcome_of lim computed b e.asked) = subst (Moved lim part part' (counted c')) o r.moved in
         let left : Stands lim (after_call b e.asked) part' (counted c') = record {
           whole = m.whole;
           atoms = m.atoms ∙ here.atoms;
@@ -101,7 +101,7 @@ module _ (lim : Limits) where
           stands = stands_grown lim (after_call b e.asked) part' rest (counted c') left;
           size = omega (arith, length-append part' rest, length-append part rest, m.size);
           past_need = subst (λ k. drop k (part' ++ rest) ≡ drop k (part ++ rest)) z
-              (drop-append-le k part' rest (omega (arith, here.whole.enough, m.whole.enough, m.size)) ∙ ap {A = List ℕ} (λ v. v ++ rest) m.rest
+              (drop-append-le k part' rest (omega (arith, here.whole.enough, m.whole.enough, m.size)) ∙ ap {A = List ℕ} (λ v. v ++ rest) (later (need_of part) k part' part (omega arith) m.rest)
               ∙ sym (drop-append-le k part rest (omega (arith, here.whole.enough, m.whole.enough, m.size))));
           told = subst (λ (y : Outcome). HandsBack e y.answer) o r.told;
         }

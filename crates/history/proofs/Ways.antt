@@ -8,15 +8,13 @@ use lib.ListN.{length}
 use lib.Dec.{T, eqb}
 use Rattle.types.specs.declared.Limits.{Limits}
 use Rattle.types.specs.declared.Counters as t
-use Rattle.meaning.specs.Merge.{rule_of}
 use Rattle.book.specs.Rows.{up_to}
 use Rattle.book.specs.Table.{Step, Call, a_step, a_report, bounds_of, listed, Answer, refused, done, still, conflict_in, searched, reported, Returned, returned_by, State, unchanged, reply}
-use Rattle.book.specs.Book.{Counters, theory_after}
+use Rattle.book.specs.Book.{Counters}
 use Rattle.book.proofs.Tests.{either}
-use Rattle.book.proofs.Keeps.{theory_stays}
-use Rattle.area.specs.Layout.{level_of, rows_of, theory_of}
+use Rattle.area.specs.Layout.{level_of, rows_of}
 use Rattle.area.specs.Whole.{Whole}
-use Rattle.calls.specs.Calls.{counted, area_state, is_refusal, idle, unmoved, Leaves, LeftBy, Moved, Acts}
+use Rattle.calls.specs.Calls.{counted, area_state, is_refusal, idle, unmoved, Moved, Acts}
 use Rattle.give.proofs.Moves.{stays}
 use Rattle.history.specs.History.{Event, counters_held, HandsBack, Called, by_step, by_report}
 use Rattle.history.proofs.Replies.{lists_nothing, reports_nothing, reply_kept}
@@ -55,35 +53,32 @@ called_broken b (by_report x p old new a) = record { area = refl; counters = ref
 
 pub record Replied (lim : Limits) (w w' : List ℕ) (e : Event) (c' : t.Counters) : Type 0 where
   pub told : HandsBack e (reply (area_state lim w) e.asked.call).answer
-  pub left : LeftBy lim w w' (counted c') e.asked.call (reply (area_state lim w) e.asked.call)
+  pub moved : Moved lim w w' (counted c') (reply (area_state lim w) e.asked.call)
 
 module _ (lim : Limits) (w : List ℕ) (c d : t.Counters) (h : Whole lim w (counted c)) (g : Whole lim w (counted d)) (all : up_to (level_of w) (rows_of w) ≡ rows_of w) where
   abbrev q : State
   q = area_state lim w
 
-  stayed : (x : Call) (k : Counters) → Whole lim w k → theory_after rule_of x (reply q x).answer (theory_of w) ≡ theory_of w
-      → reply q x ≡ unchanged q (reply q x).answer → LeftBy lim w w k x (reply q x)
-  stayed x k v t e =
-      subst (λ rs. Leaves lim w w k rs (reply q x)) (sym t) (subst (Moved lim w w k) (sym e) (stays lim w k v (reply q x).answer))
+  stayed : (x : Call) (k : Counters) → Whole lim w k → reply q x ≡ unchanged q (reply q x).answer → Moved lim w w k (reply q x)
+  stayed x k v e = subst (Moved lim w w k) (sym e) (stays lim w k v (reply q x).answer)
 
   -- kept, the area is whole with whichever counters are held
   held_whole : (p : Returned) (c' : t.Counters) → counted c' ≡ counted d → Whole lim w (counted (counters_held p c c'))
   held_whole p c' e = either (λ k. Whole lim w (counted k)) (eqb p.code 0) (λ _. subst (Whole lim w) (sym e) g) (λ _. h)
 
-  acts_leaves : (w' : List ℕ) (x : Step) (p : Returned) (c' : t.Counters) → Acts lim w w' (counted d) (counted c') x p
-      → LeftBy lim w w' (counted (counters_held p c c')) (a_step x) (reply q (a_step x))
-  acts_leaves w' x p c' a =
-      either (λ (b : Bool). LeftBy lim w w' (counted (counters_held p c c')) (a_step x) (reply q (a_step x))) (unmoved q x) {x = true} {y = true}
-      (λ t. subst (λ v. LeftBy lim w v (counted (counters_held p c c')) (a_step x) (reply q (a_step x))) (sym (a.kept g t).0)
-      (stayed (a_step x) (counted (counters_held p c c')) (held_whole p c' (a.kept g t).1) (theory_stays rule_of (a_step x) (reply q (a_step x)).answer (theory_of w))
-      (reply_kept q all x t)))
-      (λ t. subst (λ k. LeftBy lim w w' (counted k) (a_step x) (reply q (a_step x)))
+  acts_moves : (w' : List ℕ) (x : Step) (p : Returned) (c' : t.Counters) → Acts lim w w' (counted d) (counted c') x p
+      → Moved lim w w' (counted (counters_held p c c')) (reply q (a_step x))
+  acts_moves w' x p c' a =
+      either (λ (b : Bool). Moved lim w w' (counted (counters_held p c c')) (reply q (a_step x))) (unmoved q x) {x = true} {y = true}
+      (λ t. subst (λ v. Moved lim w v (counted (counters_held p c c')) (reply q (a_step x))) (sym (a.kept g t).0)
+      (stayed (a_step x) (counted (counters_held p c c')) (held_whole p c' (a.kept g t).1) (reply_kept q all x t)))
+      (λ t. subst (λ k. Moved lim w w' (counted k) (reply q (a_step x)))
       (sym (ap {A = Returned} (λ y. counters_held y c c') (a.answer.told g) ∙ held_moved c c' (reply q (a_step x)).answer (idle q x) t)) (a.moved g t))
 
   pub called_whole : {w' : List ℕ} {c' : t.Counters} {e : Event} → Called lim w c d w' e c' → Replied lim w w' e c'
   called_whole (by_step {w' = w'} x p c' a) =
-      record { told = record { numbers = a.answer.told g; list = sym (lists_nothing q x) }; left = acts_leaves w' x p c' a }
+      record { told = record { numbers = a.answer.told g; list = sym (lists_nothing q x) }; moved = acts_moves w' x p c' a }
   called_whole (by_report x p old new a) = record {
     told = record { numbers = a.answer.told g; list = a.written g };
-    left = stayed (a_report x (length old)) (counted c) h refl (reports_nothing q x (length old));
+    moved = stayed (a_report x (length old)) (counted c) h (reports_nothing q x (length old));
   }

@@ -6,7 +6,7 @@ use Rattle.numbers.specs.Words.{unword}
 use Rattle.meaning.specs.Meaning.{Sentence}
 use Rattle.book.specs.Rows.{trail}
 use Rattle.book.specs.Table.{Step, Report, Call, a_step, a_report, Answer, Returned, returned_by, list_after}
-use Rattle.book.specs.Book.{Counters, Judgement, Judging, computed, rules_of, Book, fresh, Asked, answers, book_after, most_needed}
+use Rattle.book.specs.Book.{Counters, Judgement, Judging, computed, rules_of, fresh, Asked, answers, book_after, most_needed}
 use Rattle.book.specs.Means.{Bounded, Explains, ExplainsConflict, OriginList}
 use Rattle.area.specs.Layout.{atoms_of, level_of, rows_of, theory_of, record_at, least_at, greatest_at}
 use Rattle.area.specs.Whole.{Whole}
@@ -67,10 +67,6 @@ HandedBack [] (a ∷ rest) = ⊥
 HandedBack (e ∷ es) [] = ⊥
 HandedBack (e ∷ es) (a ∷ rest) = HandsBack e a × HandedBack es rest
 
--- the book after the calls
-abbrev pub book_then : Limits → Judgement → ℕ → List Sentence → List Event → Book
-book_then lim j n ss es = book_after lim j (fresh n ss) (asked_in es)
-
 -- `loaded` are the words that load left, `w` and `c` the words and counters after the calls
 pub record Claim (lim : Limits) (n : ℕ) (ss : List Sentence) (loaded : List ℕ) (es : List Event) (w : List ℕ) (c : t.Counters) : Type 0 where
   -- the book's answers, whoever judges by full assignments; and such a judgement exists
@@ -79,25 +75,22 @@ pub record Claim (lim : Limits) (n : ℕ) (ss : List Sentence) (loaded : List �
   -- the area, and its trail; words past the most that was needed keep their contents
   pub whole : Whole lim w (counted c)
   pub atoms : atoms_of w ≡ n
-  pub theory : (j : Judgement) → Judging j → theory_of w ≡ rules_of (book_then lim j n ss es).sentences
+  pub theory : (j : Judgement) → Judging j → theory_of w ≡ rules_of (book_after lim j (fresh n ss) (asked_in es)).sentences
   pub size : length w ≡ length loaded
   pub past_need : (j : Judgement) → Judging j
       → drop (most_needed lim j (fresh n ss) (asked_in es)) w ≡ drop (most_needed lim j (fresh n ss) (asked_in es)) loaded
-  pub rows : (j : Judgement) → Judging j → rows_of w ≡ (book_then lim j n ss es).rows
-  pub level : (j : Judgement) → Judging j → level_of w ≡ (book_then lim j n ss es).level
+  pub rows : (j : Judgement) → Judging j → rows_of w ≡ (book_after lim j (fresh n ss) (asked_in es)).rows
+  pub level : (j : Judgement) → Judging j → level_of w ≡ (book_after lim j (fresh n ss) (asked_in es)).level
   pub counters : counted c ≡ record { length_is = length (rows_of w); level_is = level_of w }
-  -- the stored bounds of every sentence that the book then holds
-  pub bounds_are : (j : Judgement) → Judging j → (s : ℕ) → s < length (book_then lim j n ss es).sentences
-      → Bounded (book_then lim j n ss es).sentences (trail (rows_of w)) (suc s) (unword (least_at w (record_at n s))) (unword (greatest_at w (record_at n s)))
+  -- the stored bounds of every sentence
+  pub bounds_are : (s : ℕ) → s < length ss → Bounded ss (trail (rows_of w)) (suc s) (unword (least_at w (record_at n s))) (unword (greatest_at w (record_at n s)))
   -- every explanation that is not refused
-  pub explained : (j : Judgement) → Judging j → (l : ℤ) (old new : List ℤ) (r : Listed) → ListsExplanation lim w c l old new r → r.code ≡ 0
-      → Explains (book_then lim j n ss es).sentences (rows_of w) l (take r.value new)
-  pub conflict_explained : (j : Judgement) → Judging j → (k : ℕ) (old new : List ℤ) (r : Listed) → ListsConflict lim w c k old new r → r.code ≡ 0
-      → ExplainsConflict (book_then lim j n ss es).sentences (rows_of w) k (take r.value new)
+  pub explained : (l : ℤ) (old new : List ℤ) (r : Listed) → ListsExplanation lim w c l old new r → r.code ≡ 0 → Explains ss (rows_of w) l (take r.value new)
+  pub conflict_explained : (k : ℕ) (old new : List ℤ) (r : Listed) → ListsConflict lim w c k old new r → r.code ≡ 0
+      → ExplainsConflict ss (rows_of w) k (take r.value new)
   -- every origin report has an answer, and one that is not refused names origins
   pub origin_answered : (l : ℤ) (old : List ℤ) → (new : List ℤ) × (r : Listed) × ListsOrigin lim w c l old new r
-  pub originated : (j : Judgement) → Judging j → (l : ℤ) (old new : List ℤ) (r : Listed) → ListsOrigin lim w c l old new r → r.code ≡ 0
-      → OriginList (book_then lim j n ss es).sentences (rows_of w) l (take r.value new)
+  pub originated : (l : ℤ) (old new : List ℤ) (r : Listed) → ListsOrigin lim w c l old new r → r.code ≡ 0 → OriginList ss (rows_of w) l (take r.value new)
 
 -- the counters after a load
 abbrev pub start : t.Counters

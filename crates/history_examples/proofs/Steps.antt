@@ -2,16 +2,16 @@
 use mathlib.Core.Path.{◌≡◌, refl, sym, ap, ◌∙◌}
 use mathlib.Core.Bool.{not}
 use mathlib.Core.List.{List, [], ◌∷◌, ◌++◌, append-nil}
-use Prim.Native.Nat.{ℕ, max}
+use Prim.Native.Nat.{ℕ}
 use lib.ListN.{length, take, drop, take-append-drop}
 use lib.IntN.{ℤ}
 use lib.Dec.{T}
 use Rattle.types.specs.Limits.{document}
 use Rattle.types.specs.declared.Counters as t
-use Rattle.meaning.specs.Merge.{Rule, rule_of}
+use Rattle.meaning.specs.Merge.{Rule}
 use Rattle.book.specs.Rows.{Row}
 use Rattle.book.specs.Table.{Step, Report, a_step, a_report, refused, Returned, returned_by, list_after, Outcome, reply}
-use Rattle.book.specs.Book.{Counters, theory_after}
+use Rattle.book.specs.Book.{Counters}
 use Rattle.area.specs.Layout.{atoms_of, level_of, rows_of, theory_of, need_of}
 use Rattle.area.specs.Whole.{Whole}
 use Rattle.calls.specs.Calls.{area_state, unmoved, Acts, Reports}
@@ -30,25 +30,17 @@ pub record ReadOff : Type 0 where
   pub rest : List ℕ
 
 abbrev pub words_show : (w w' : List ℕ) → ReadOff
-words_show w w' =
-    record { atoms = atoms_of w'; theory = theory_of w'; level = level_of w'; rows = rows_of w'; size = length w'; rest = drop (max (need_of w) (need_of w')) w' }
+words_show w w' = record { atoms = atoms_of w'; theory = theory_of w'; level = level_of w'; rows = rows_of w'; size = length w'; rest = drop (need_of w) w' }
 
-abbrev pub must_show : (w w' : List ℕ) → Step → Outcome → ReadOff
-must_show w w' x o = record {
-  atoms = atoms_of w;
-  theory = theory_after rule_of (a_step x) o.answer (theory_of w);
-  level = o.level;
-  rows = o.rows;
-  size = length w;
-  rest = drop (max (need_of w) (need_of w')) w;
-}
+abbrev pub must_show : List ℕ → Outcome → ReadOff
+must_show w o = record { atoms = atoms_of w; theory = theory_of w; level = o.level; rows = o.rows; size = length w; rest = drop (need_of w) w }
 
 -- ---- contracts
 
 module _ {w : List ℕ} {c : Counters} {x : Step} {p : Returned} where
   -- not refused: the words w' and counters c'
   pub moving : {w' : List ℕ} {c' : Counters} → T (whole_test document w c) → p ≡ returned_by (reply (area_state document w) (a_step x)).answer
-      → T (not (unmoved (area_state document w) x)) → T (whole_test document w' c') → words_show w w' ≡ must_show w w' x (reply (area_state document w) (a_step x))
+      → T (not (unmoved (area_state document w) x)) → T (whole_test document w' c') → words_show w w' ≡ must_show w (reply (area_state document w) (a_step x))
       → Acts document w w' c c' x p
   moving {w'} {c'} h e k h' l = acts_moved document w c x p w' c' (decided document w c h) k e (record {
     whole = decided document w' c' h';

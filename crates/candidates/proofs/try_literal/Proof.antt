@@ -9,19 +9,19 @@ use Rattle.candidates.proofs.try_literal.Statement.{statement}
 use Rattle.candidates.proofs.try_literal.Tie as tie
 
 -- the area with the level open
-usable : (c : tie.Else-opened-ne0) → Usable c.before.before.before.before.before.before.before.args.lim
-    c.before.before.before.before.open_whole-opened.new.area (counted c.before.before.before.before.open_whole-opened.result.counters)
-usable c = let u = c.before.before.before.before.before.before.before.requires.usable in
-    record { fitting = u.fitting; whole = (moved _ _ _ _ _ _ u.whole c.before.before.before.before.open_whole-opened.ensures c.if-opened-ne0.false).whole }
+usable : (c : tie.Else-opened-ne0) → Usable c.args.lim
+    c.open_whole-opened.new.area (counted c.open_whole-opened.result.counters)
+usable c = let u = c.requires.usable in
+    record { fitting = u.fitting; whole = (moved _ _ _ _ _ _ u.whole c.open_whole-opened.ensures c.if-opened-ne0.false).whole }
 
 pub try_literal_spec : {M : Type 1} → statement M
 try_literal_spec = tie.close (tie.spec
     (λ c κs. search rules) (λ c. search rules)
-    (λ c. let s = c.before.before.before.before.before.before.before in
-    tried_refused _ _ _ _ _ _ s.requires.usable.whole c.before.before.before.before.open_whole-opened.ensures s.args.literal c.if-opened-ne0.true)
-    (λ c κs. (_, usable c.before)) (λ c. search rules)
-    (λ c. let s = c.before.before.before.before.before.before.before.before.before.before.before in
+    (λ c. let s = c in
+    tried_refused _ _ _ _ _ _ s.requires.usable.whole c.open_whole-opened.ensures s.args.literal c.if-opened-ne0.true)
+    (λ c κs. (_, usable c.before.before)) (λ c. search rules)
+    (λ c. let s = c in
     let given = rw (to_z-of_z w64 s.args.literal s.ranges.literal) at
-    (c.before.before.give_whole.ensures s.args.lim (usable c.before.before.before.before)) in
-    literal_given _ _ _ _ _ _ s.requires.usable.whole c.before.before.before.before.before.before.before.before.open_whole-opened.ensures
-    c.before.before.before.before.if-opened-ne0.false s.args.literal s.requires.known s.requires.off _ _ _ given))
+    (c.give_whole.ensures s.args.lim (usable c.before.before.before.before.before)) in
+    literal_given _ _ _ _ _ _ s.requires.usable.whole c.open_whole-opened.ensures
+    c.if-opened-ne0.false s.args.literal s.requires.known s.requires.off _ _ _ given))

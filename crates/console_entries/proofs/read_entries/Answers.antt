@@ -40,5 +40,5 @@ loop-k-preserved c =
 pub returns : goal.returns
 returns c =
     let e = full c.loop-k.invariant (omega (arith, c.larger-most.ensures.0, c.loop-k.invariant.weights_same))
-        (omega (arith, c.larger-most.ensures.1, c.loop-k.invariant.literals_same)) in
+    (omega (arith, c.larger-most.ensures.1, c.loop-k.invariant.literals_same)) in
     record { weights_after = e.0; literals_after = e.1 }

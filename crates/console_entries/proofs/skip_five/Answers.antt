@@ -14,9 +14,9 @@ loop-k-init c = (omega arith, omega arith, refl)
 
 pub returns-in_default : goal.returns-in_default
 returns-in_default c = (
-    omega arith,
-    no_words_left c.args.line.now c.loop-k.at c.loop-k.k 5 (omega arith) c.loop-k.invariant.2 (ended c.args.line.now c.loop-k.at c.next_word.ensures c.in_default.is),
-  )
+  omega arith,
+  no_words_left c.args.line.now c.loop-k.at c.loop-k.k 5 (omega arith) c.loop-k.invariant.2 (ended c.args.line.now c.loop-k.at c.next_word.ensures c.in_default.is),
+)
 
 pub loop-k-preserved : goal.loop-k-preserved
 loop-k-preserved c = let w = found c.next_word.ensures c.in-Word.is in

@@ -67,7 +67,7 @@ explanation_whole_spec = tie.close (tie.spec
     rw (told_reason c.before.before.before.before.before, c.before.before.before.before.before.before.atoms_of-n.ensures, c.before.before.before.sentences_of-sentences.ensures)
     (reason_asked s.requires.0 s.requires.1 (derived c.before.before.before.before), omega (arith, size, told_count c.before.before, c.before.if-list-needed.false)))
     (λ c. let s = c.before.before.before.before.before.before.before.before.before.before.before.before.before in
-    c.before.write_causes.auto.1.1.1.1.1.0 ∙ length-set s.args.list.now 0 (to_z w64 (of_z w64 s.args.literal)))
+    c.before.write_causes.auto.list ∙ length-set s.args.list.now 0 (to_z w64 (of_z w64 s.args.literal)))
     (λ c. let s = c.before.before.before.before.before.before.before.before.before.before.before.before.before in
     let k = c.before.before.before.before in
     let written = rw (told_reason k.before.before.before, k.before.before.before.before.atoms_of-n.ensures, k.before.sentences_of-sentences.ensures) at

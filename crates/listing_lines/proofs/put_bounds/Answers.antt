@@ -20,8 +20,7 @@ bounds_whole-b-requires c =
 
 pub loop-k-preserved : goal.loop-k-preserved
 loop-k-preserved c =
-    let b = c.bounds_whole-b in
-    (
+    let b = c.bounds_whole-b in (
       omega arith,
       bound_more c.args.area.now c.loop-k.k b.result c.document.ensures b.ensures c.loop-k.invariant.1 c.put_bound-place.ensures,
     )

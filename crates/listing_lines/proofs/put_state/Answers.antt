@@ -9,8 +9,8 @@ atoms_of-n-requires c = some_words c.requires
 pub length_of-rows-requires : goal.length_of-rows-requires
 length_of-rows-requires c = some_words c.requires
 
-pub sentences_of-requires : goal.sentences_of-requires
-sentences_of-requires c = some_words c.requires
+pub sentences_of-sentences-requires : goal.sentences_of-sentences-requires
+sentences_of-sentences-requires c = some_words c.requires
 
 pub put_rows-behind-requires : goal.put_rows-behind-requires
 put_rows-behind-requires c = let f = rows_fit c.requires in omega (arith, f)

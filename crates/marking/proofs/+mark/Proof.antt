@@ -23,12 +23,12 @@ mark_below t = and 2 mark_kinds.ps (falls 2 mark_kinds.ps ◌<◌ μ_mark t) mar
 
 pub +mark_spec : {M : Type 1} → statement M
 +mark_spec = close μ_mark λ t. mark_lts.spec (mark-one-reads.Asked, mark-one-reads.Learnt, mark_below t, mark.Post) (mark_at t) mark.Post
-    (λ c κs. c.before.before.before.requires.1)
+    (λ c κs. c.requires.1)
     (λ c. search rules)
-    (λ c. swept_first _ _ _ _ _ _ c.if1.true c.before.before.before.mark_one.ensures)
+    (λ c. swept_first _ _ _ _ _ _ c.if-position-eq0.true c.mark_one.ensures)
     (λ c. search rules)
-    (λ c κs. let s = c.before.before.before.before.before.before.before.before in
-    (omega (arith, s.requires.0, c.before.if1.false), markable_below s.requires.1 _ (omega arith) _ c.before.before.before.before.mark_one.ensures.size))
+    (λ c κs. let s = c in
+    (omega (arith, s.requires.0, c.if-position-eq0.false), markable_below s.requires.1 _ (omega arith) _ c.mark_one.ensures.size))
     (λ c. search rules)
-    (λ c. swept_later _ _ _ _ (omega (arith, c.before.before.before.before.if1.false)) _ _ c.before.before.before.before.before.before.before.mark_one.ensures _
-    c.before.before.mark.ensures)
+    (λ c. swept_later _ _ _ _ (omega (arith, c.if-position-eq0.false)) _ _ c.mark_one.ensures _
+    c.mark.ensures)

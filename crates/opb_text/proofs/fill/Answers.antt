@@ -1,6 +1,6 @@
 -- Each arm of the match puts what it has read.
 use native.Mathlib.Omega.{arith}
-use Rattle.opb_text.proofs.Filled.{few_variables, first, sound_here, few, same, more, term_room, term, rows_room, constraint, no_fault, end}
+use Rattle.opb_text.proofs.Filled.{few_variables, first, sound_here, few, more, term_room, term, rows_room, constraint, no_fault, end}
 use Rattle.opb_text.proofs.fill.Goals as goal
 
 pub overflow_add-head : goal.overflow_add-head

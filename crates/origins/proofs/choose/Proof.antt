@@ -6,29 +6,29 @@ use borrow.Author.Rules.{rules}
 use Rattle.origins.proofs.choose.Statement.{statement}
 use Rattle.origins.proofs.choose.Tie as tie
 
-same_size : (c : tie.After-mark) → length c.mark.new.marks ≡ length c.before.before.before.before.before.before.before.args.marks.now
-same_size c = let s = c.before.before.before.before.before.before.before in
+same_size : (c : tie.After-mark) → length c.mark.new.marks ≡ length c.args.marks.now
+same_size c = let s = c in
     c.mark.ensures.size ∙ length-set s.args.marks.now s.args.position _
 
 returns : tie.Need-returns
-returns c = let s = c.before.before.before.before.before.before.before.before.before.before in
+returns c = let s = c in
     choice _ _ s.requires.0 _ s.requires.1 _ (rw (
-      c.before.before.before.before.before.before.before.before.atoms_of-n.ensures,
-      c.before.before.before.before.before.before.before.sentences_of-sentences.ensures,
-    ) at c.before.before.before.before.mark.ensures) _
+      c.atoms_of-n.ensures,
+      c.sentences_of-sentences.ensures,
+    ) at c.mark.ensures) _
     (rw (
-      c.before.before.before.before.before.before.before.before.atoms_of-n.ensures,
-      c.before.before.before.before.before.before.length_of-rows.ensures,
+      c.atoms_of-n.ensures,
+      c.length_of-rows.ensures,
     ) at c.count_chosen.ensures)
 
 pub choose_spec : {M : Type 1} → statement M
 choose_spec = tie.close (tie.spec
     (λ c κs. search rules) (λ c κs. search rules) (λ c κs. search rules)
-    (λ c. inside _ _ c.before.before.before.before.before.requires.0 _ c.before.before.before.before.before.requires.1)
-    (λ c κs. let s = c.before.before.before.before.before.before in
-    rw (c.before.before.before.atoms_of-n.ensures, c.before.before.sentences_of-sentences.ensures)
+    (λ c. inside _ _ c.requires.0 _ c.requires.1)
+    (λ c κs. let s = c in
+    rw (c.atoms_of-n.ensures, c.sentences_of-sentences.ensures)
     (markable _ _ s.requires.0 _ s.requires.1 _ (length-set s.args.marks.now s.args.position _)))
-    (λ c κs. let s = c.before.before.before.before.before.before.before.before.before.before in
-    rw (c.before.before.before.before.before.before.before.atoms_of-n.ensures, c.before.before.before.before.before.length_of-rows.ensures)
-    (choosable _ _ s.requires.0 _ s.requires.1 _ (same_size c.before.before.before)))
-    (λ c. same_size c.before.before.before.before) returns)
+    (λ c κs. let s = c in
+    rw (c.atoms_of-n.ensures, c.length_of-rows.ensures)
+    (choosable _ _ s.requires.0 _ s.requires.1 _ (same_size c.before.before)))
+    (λ c. same_size c.before.before.before) returns)

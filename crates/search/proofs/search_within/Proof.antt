@@ -31,11 +31,11 @@ pub search_within_spec : {M : Type 1} → statement M
 search_within_spec = tie.close (tie.spec
     (λ c κs. search rules) (λ c κs. search rules) (λ c. search rules)
     (λ c. rw c.unopposed.ensures (acts_broken _ _ _ _ _ (denied c.is_whole.ensures c.if-not-is_whole.true-raw) refl))
-    (λ c κs. let h = whole c.before in omega (arith, h.enough, h.theory.atoms_low)) (λ c κs. search rules) (λ c. search rules)
-    (λ c. rw c.unopposed-then-code-ne0.ensures (stops (whole c.before.before.before.before) (code c.before.before) c.if-code-ne0.true))
+    (λ c κs. let h = whole c in omega (arith, h.enough, h.theory.atoms_low)) (λ c κs. search rules) (λ c. search rules)
+    (λ c. rw c.unopposed-then-code-ne0.ensures (stops (whole c.before.before.before) (code c.before.before) c.if-code-ne0.true))
     (λ c κs. record {
-      usable = record { fitting = c.requires; whole = whole c.before.before.before.before };
+      usable = record { fitting = c.requires; whole = whole c.before.before.before };
       known = known c.before;
     })
     (λ c. search rules)
-    (λ c. acts_searched _ _ _ _ (whole c.before.before.before.before.before.before.before) (known c.before.before.before.before) _ _ c.search_whole.ensures))
+    (λ c. acts_searched _ _ _ _ (whole c.before.before.before.before.before.before) (known c.before.before.before.before) _ _ c.search_whole.ensures))

@@ -1,0 +1,31 @@
+-- One head more, behind the first k.
+use native.Mathlib.Omega.{arith}
+use Prim.Native.Nat.{◌+◌}
+use mir.Syntax.{w64}
+use mir.Val.{to_z}
+use mir.ValLaws.{to_z_pos}
+use Rattle.types.specs.Limits.{document}
+use Rattle.load.proofs.Base.{base_fits}
+use Rattle.listing_heads.proofs.Moves.{heads_none, heads_more, heads_all}
+use Rattle.listing_heads.proofs.give_heads.Goals as goal
+
+pub loop-k-init : goal.loop-k-init
+loop-k-init c = (omega arith, heads_none c.args.area.now c.args.variables c.requires.whole)
+
+pub overflow_add-variables : goal.overflow_add-variables
+overflow_add-variables c = omega (arith, c.requires.few)
+
+pub give_whole-given-requires : goal.give_whole-given-requires
+give_whole-given-requires c = (document, record { fitting = base_fits; whole = c.loop-k.invariant.1.stands.whole })
+
+pub loop-k-preserved : goal.loop-k-preserved
+loop-k-preserved c =
+    let head = c.args.variables + (c.loop-k.k + 1) in
+    let g = c.loop-k.invariant.1 in (
+      omega arith,
+      heads_more (to_z w64 head) (to_z_pos w64 head (omega (arith, c.requires.few))) g
+          (c.give_whole-given.ensures document (record { fitting = base_fits; whole = g.stands.whole })),
+    )
+
+pub returns : goal.returns
+returns c = heads_all (omega (arith, c.loop-k.invariant.0)) c.loop-k.invariant.1
