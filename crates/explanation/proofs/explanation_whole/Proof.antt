@@ -28,9 +28,10 @@ told_reason : (c : tie.After-row_reason-reason) → let w = c.before.before.befo
     c.row_reason-reason.result ≡ (row_at w (atoms_of w) c.before.before.before.before.locate-at.result.position).reason
 told_reason c = rw c.before.atoms_of-n.ensures at c.row_reason-reason.ensures
 
-derived : (c : tie.Else-reason-eq0) → Derived c.before.before.before.before.before.before.before.args.area.now c.before.before.before.before.before.before.before.args.literal
-    c.before.before.before.before.before.locate-at.result.position
-derived c = record { on = on c.before.before.before; reason = λ z. c.if-reason-eq0.false (told_reason c.before ∙ z) }
+derived : (c : tie.After-row_reason-reason) → (c.row_reason-reason.result ≡ 0 → ⊥)
+    → Derived c.before.before.before.before.before.before.args.area.now c.before.before.before.before.before.before.args.literal
+    c.before.before.before.before.locate-at.result.position
+derived c d = record { on = on c.before.before; reason = λ z. d (told_reason c ∙ z) }
 
 -- the causes of the row at a position, by its reason
 abbrev others : tie.Start → ℕ → ℕ
@@ -52,25 +53,26 @@ explanation_whole_spec = tie.close (tie.spec
     omega (arith, c.atoms_of-n.ensures, (on c.before).inside, s.requires.1.enough, (trail_asked _ _ _ s.requires.0 s.requires.1).room.few))
     (λ c. let s = c.before.before.before.before.before.before.before in
     let at = on c.before.before.before in
+    let zero : c.row_reason-reason.result ≡ 0 = omega arith in
     listing_refused _ _ _ _ 13 0 (explain_given s.args.lim s.args.area.now s.args.literal _ at.known _ at.position at.inside
-    (rw (told_reason c.before) at c.if-reason-eq0.true)))
+    (rw (told_reason c.before) at zero)))
     (λ c κs. search rules) (λ c. search rules) (λ c. search rules) (λ c. search rules) (λ c. search rules)
     (λ c κs. let s = c.before.before.before.before.before.before.before.before in
-    rw (told_reason c.before.before, c.before.before.before.atoms_of-n.ensures, c.sentences_of-sentences.ensures) (reason_asked s.requires.0 s.requires.1 (derived c.before)))
+    rw (told_reason c.before.before, c.before.before.before.atoms_of-n.ensures, c.sentences_of-sentences.ensures) (reason_asked s.requires.0 s.requires.1 (derived c.before.before (λ e. omega (arith, e)))))
     (λ c. let s = c.before.before.before.before.before.before.before.before.before in
-    omega (arith, told_count c, others_few s.requires.0 s.requires.1 (derived c.before.before)))
+    omega (arith, told_count c, others_few s.requires.0 s.requires.1 (derived c.before.before.before (λ e. omega (arith, e)))))
     (λ c. let s = c.before.before.before.before.before.before.before.before.before.before in
-    explanation_short s.requires.0 s.requires.1 (derived c.before.before.before) s.args.list.now (told_count c.before) c.if-list-needed.true)
+    explanation_short s.requires.0 s.requires.1 (derived c.before.before.before.before (λ e. omega (arith, e))) s.args.list.now (told_count c.before) c.if-list-needed.true)
     (λ c. search rules)
     (λ c κs. let s = c.before.before.before.before.before.before.before.before.before.before.before in
     let size = length-set s.args.list.now 0 (to_z w64 (of_z w64 s.args.literal)) in
     rw (told_reason c.before.before.before.before.before, c.before.before.before.before.before.before.atoms_of-n.ensures, c.before.before.before.sentences_of-sentences.ensures)
-    (reason_asked s.requires.0 s.requires.1 (derived c.before.before.before.before), omega (arith, size, told_count c.before.before, c.before.if-list-needed.false)))
+    (reason_asked s.requires.0 s.requires.1 (derived c.before.before.before.before.before (λ e. omega (arith, e))), omega (arith, size, told_count c.before.before, c.before.if-list-needed.false)))
     (λ c. let s = c.before.before.before.before.before.before.before.before.before.before.before.before.before in
     c.before.write_causes.auto.list ∙ length-set s.args.list.now 0 (to_z w64 (of_z w64 s.args.literal)))
     (λ c. let s = c.before.before.before.before.before.before.before.before.before.before.before.before.before in
     let k = c.before.before.before.before in
     let written = rw (told_reason k.before.before.before, k.before.before.before.before.atoms_of-n.ensures, k.before.sentences_of-sentences.ensures) at
     c.before.write_causes.ensures in
-    explanation_listed s.requires.0 s.requires.1 (derived k.before.before) s.args.list.now (told_count k)
+    explanation_listed s.requires.0 s.requires.1 (derived k.before.before.before (λ e. omega (arith, e))) s.args.list.now (told_count k)
     (to_z-of_z w64 s.args.literal s.ranges.literal) c.before.before.before.if-list-needed.false written))
