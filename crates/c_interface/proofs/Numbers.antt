@@ -6,7 +6,8 @@ use Prim.Native.Nat.{ℕ, ◌<◌, ◌≤◌}
 use native.Mathlib.Omega.{arith}
 use lib.Dec.{eqb, ltb}
 use borrow.Author.Tests.{eq-eqb, ne_eqb, eqb-true, eqb-false, lt-ltb, le-ltb, ltb-true, ltb-false}
-use Rattle.c_interface.specs.Interface.{packed, one_number}
+use Rattle.c_interface.specs.Interface.{packed}
+use Rattle.c_interface.specs.Inner.Numbers.{one_number}
 
 module _ (code value needed room : ℕ) where
   abbrev choose : ℕ → Bool → Bool → ℕ
