@@ -9,7 +9,6 @@ use lib.ListN.{length}
 use lib.Dec.{T, eqb, leb, ltb}
 use borrow.Author.Tests.{eqb-true, eqb-false, eq-eqb, lt-ltb, le-ltb}
 use Rattle.types.specs.declared.Limits.{Limits}
-use Rattle.types.specs.declared.Counters as types
 use Rattle.decide.proofs.Below.{or_right}
 use Rattle.meaning.specs.Meaning.{atom}
 use Rattle.book.specs.Rows.{Row, any}
@@ -18,14 +17,11 @@ use Rattle.book.specs.Book.{Counters}
 use Rattle.area.specs.Layout.{atoms_of, length_of, level_of, rows_of}
 use Rattle.area.specs.Whole.{Whole}
 use Rattle.whole.specs.Parts.{counters_with}
-use Rattle.calls.specs.Calls.{area_state, counted, is_refusal, idle, unmoved, Moved, Acts}
+use Rattle.calls.specs.Calls.{area_state, is_refusal, idle, unmoved, Moved, Acts}
 use Rattle.trail_check.proofs.Rows.{rows_length}
 use Rattle.trail.proofs.Rows.{up_to_all}
 use Rattle.give.specs.Inner.Refused.{refusal_code}
 use Rattle.give.proofs.Refused.{replied}
-use Rattle.propagate.specs.Propagate.{propagated_returned, counters_of}
-use Rattle.propagate.specs.declared.Propagated.{Propagated}
-use Rattle.propagate.specs.declared.Propagated.TheVariants.{Broken}
 use Rattle.c_interface.specs.Interface.{packed, told, refuses, fronted, next_counted, Changes}
 use Rattle.c_interface.specs.Inner.Numbers.{one_number, number_of, stopped}
 use Rattle.c_interface.proofs.Numbers.{passes, short_only, refused_number, short_number, done_number}
@@ -87,19 +83,6 @@ module _ (lim : Limits) (w : List ℕ) (c : Counters) (x : Step) (h : Whole lim 
             let m = a.moved h (subst (λ (b : Bool). T (not b)) (sym (keeps_idle ∙ e)) tt) in
             ap₂ {A = ℕ} {B = ℕ} counters_with (sym m.whole.length_is ∙ sym (rows_length w' (atoms_of w') (length_of w')) ∙ ap {A = List Row} length m.rows)
             (sym m.whole.level_is ∙ m.level)
-
--- ---- the area is not whole
-
-pub changes_broken : {lim : Limits} {w : List ℕ} {c : Counters} {x : Step} (handed : Outcome → List ℕ) {out : List ℕ} → ¬ (Whole lim w c)
-    → Changes lim w w c x handed out out 9
-changes_broken handed b = record {
-  broken = λ _. (refl, refl, refl);
-  answer = λ h. absurd (b h);
-  kept = λ h _. absurd (b h);
-  written = λ h _. absurd (b h);
-  idle = λ h _. absurd (b h);
-  moved = λ h _ _. absurd (b h);
-}
 
 -- ---- it is whole, and the refusal is asked for
 
@@ -226,18 +209,6 @@ counted_words lim w =
     subst (λ (o : Outcome). three_words (after o) (returned_by o.answer) ≡ next_counted w o) (sym ((replied lim w propagate).passes refl))
     (ap {A = ℕ} (λ n. length (propagated (area_state lim w)).rows ∷ level_of w ∷ n ∷ [])
     (ended_value (propagated (area_state lim w)).sentence (put_on (area_state lim w))))
-
--- ---- propagate's answer taken apart
-
-pub acts_as : {lim : Limits} {w w' : List ℕ} {c : Counters} {y z : Propagated} → y ≡ z → Acts lim w w' c (counted (counters_of y)) propagate (propagated_returned y)
-    → Acts lim w w' c (counted (counters_of z)) propagate (propagated_returned z)
-acts_as {lim} {w} {w'} {c} e a = subst (λ (y : Propagated). Acts lim w w' c (counted (counters_of y)) propagate (propagated_returned y)) e a
-
-pub never_broken : {A : Type 0} {lim : Limits} {w w' : List ℕ} {c : Counters} {y : Propagated} {n : types.Counters} → Whole lim w c
-    → Acts lim w w' c (counted (counters_of y)) propagate (propagated_returned y) → y ≡ Broken n → A
-never_broken {lim = lim} {w} {c = c} h a e =
-    let is = ap (λ (p : Returned). p.code) ((acts_as e a).answer.told h) ∙ ap (λ (o : Outcome). (returned_by o.answer).code) (effects lim w c propagate h refl) in
-    let b : ⊥ = omega (arith, is, (accepted (area_state lim w) propagate).0) in absurd b
 
 -- ---- codes are small
 

@@ -1,6 +1,6 @@
 -- Load in one number: its refusals have small codes and name one of the sentences, of which there are few once the columns have passed
--- refusal 1. Its ways out: too few lent words, refused, or loaded.
-use mathlib.Core.Path.{◌≡◌, refl, sym, ap, ◌∙◌, subst}
+-- refusal 1.
+use mathlib.Core.Path.{◌≡◌, refl, ap, subst}
 use mathlib.Core.Bool.{Bool, true, false, cond}
 use mathlib.Core.List.{List, [], ◌∷◌}
 use Prim.Native.Nat.{ℕ, zero, suc, ◌+◌, ◌<◌, ◌≤◌}
@@ -17,9 +17,6 @@ use Rattle.columns.specs.Refusals.{misshapen, columns_need, all_refusals, first_
 use Rattle.columns.specs.declared.Answer.{Answer}
 use Rattle.columns.proofs.Shapes.{shaped}
 use Rattle.columns.proofs.Answers.{answer_1, answer_2, answer_rest}
-use Rattle.load.specs.Load.{Loads}
-use Rattle.c_interface.specs.Interface.{packed, fronted, load_told, LoadsFor}
-use Rattle.c_interface.proofs.Numbers.{refused_number, done_number, passes}
 
 -- ---- codes and sentences are small
 
@@ -69,28 +66,3 @@ module _ (lim : Limits) (fits : Fitting lim) (words n : ℕ) (c : Columns) where
       go : (b : Bool) → misshapen lim n c ≡ b → Small (load_answer lim words n c)
       go true e = subst Small (answer_1 lim words n c e) (omega arith, omega arith)
       go false e = fitting (ltb words (columns_need n c)) refl e
-
--- ---- the ways out
-
-module _ {lim : Limits} {w : List ℕ} {n : ℕ} {c : Columns} {out : List ℕ} {r : ℕ} where
-  pub loads_short : length out < 2 → (a : Answer) → a ≡ load_answer lim (length w) n c → r ≡ load_told a (length out) → LoadsFor lim w w n c out out r
-  loads_short h a is e = record {
-    answer = e ∙ ap (λ (y : Answer). load_told y (length out)) is;
-    refused = λ _. (refl, refl);
-    accepted = λ z. let b : ⊥ = omega (arith, (passes a.code a.sentence.0 2 (length out) (sym e ∙ z)).1) in absurd b;
-  }
-
-  module _ {w' : List ℕ} {d : Answer} (l : Loads lim w w' n c d) where
-    pub loads_refused : ¬ (d.code ≡ 0) → r ≡ packed d.code d.sentence.0 → LoadsFor lim w w' n c out out r
-    loads_refused x e = record {
-      answer = e ∙ refused_number d.code d.sentence.0 2 (length out) 0 x ∙ ap (λ (y : Answer). load_told y (length out)) l.answer_is;
-      refused = λ _. (l.refused x, refl);
-      accepted = λ z. let b : ⊥ = omega (arith, x) in absurd b;
-    }
-
-    pub loads_done : {out' : List ℕ} → d.code ≡ 0 → 2 ≤ length out → out' ≡ fronted (0 ∷ 0 ∷ []) out → r ≡ 0 → LoadsFor lim w w' n c out out' r
-    loads_done x h f e = record {
-      answer = e ∙ done_number d.code d.sentence.0 2 (length out) 0 x h ∙ ap (λ (y : Answer). load_told y (length out)) l.answer_is;
-      refused = λ z. absurd (z e);
-      accepted = λ _. (l.accepted x, f);
-    }

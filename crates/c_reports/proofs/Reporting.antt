@@ -1,52 +1,26 @@
--- The ways out of a report: what the library's call says on the paper is the one number, and the lent words hold what it lists or the
--- marks and numbers of the bounds. Marks are small.
+-- The ways out of the bounds: what the library's call says on the paper is the one number, and where it is done the lent words hold the marks
+-- and numbers of the bounds.
 use mathlib.Core.Path.{◌≡◌, refl, sym, ap, ap₂, ◌∙◌, subst}
 use mathlib.Core.Bool.{Bool, not, ◌||◌}
 use mathlib.Core.List.{List, [], ◌∷◌}
 use Prim.Native.Nat.{ℕ, suc, ◌<◌, ◌≤◌}
 use native.Mathlib.Omega.{arith}
-use lib.ListN.{length, set}
+use lib.ListN.{length}
 use lib.IntN.{ℤ, pos}
 use lib.Dec.{T, eqb, ltb}
 use borrow.Author.Tests.{eq-eqb, ne_eqb, lt-ltb, le-ltb}
-use mir.Syntax.{w64}
-use mir.Val.{SFits, to_z, of_z}
-use mir.ValLaws.{to_z-of_z}
 use Rattle.types.specs.declared.Limits.{Limits}
-use Rattle.numbers.specs.Extended.{Extended, below, at, above}
 use Rattle.decide.proofs.Below.{or_right}
-use Rattle.book.specs.Rows.{numbered, trail}
-use Rattle.book.specs.Table.{Report, bounds, a_report, infinity, Returned, returned_by, State, no_sentence_judged, Outcome, reply}
+use Rattle.book.specs.Table.{bounds, a_report, Returned, returned_by, State, Outcome, reply}
 use Rattle.book.specs.Book.{Counters}
 use Rattle.area.specs.Whole.{Whole}
-use Rattle.calls.specs.Calls.{area_state, bounds_returned, Answered, Reports}
+use Rattle.calls.specs.Calls.{area_state, bounds_returned, Answered}
 use Rattle.calls.specs.declared.Bounds.{Bounds}
-use Rattle.reports.proofs.Signs.{natural}
-use Rattle.c_interface.specs.Interface.{packed, told, refuses, fronted, bound_words, ReportsBounds, ReportsList}
+use Rattle.c_interface.specs.Interface.{packed, told, refuses, fronted, bound_words, ReportsBounds}
 use Rattle.c_interface.specs.Inner.Numbers.{number_of, stopped}
 use Rattle.c_interface.proofs.Numbers.{refused_number, short_number, done_number}
-use Rattle.c_interface.proofs.Fronts.{four_front}
 use Rattle.c_interface.proofs.Telling.{Plain, told_number, refuses_stopped}
-use Rattle.c_reports.proofs.Sizes.{reply_by, settled}
-
--- ---- lists
-
-pub reports_list : (lim : Limits) (w : List ℕ) (c : Counters) (x : Report) (old new : List ℤ) (p : Returned) (r : ℕ) → Reports lim w c x old new p
-    → r ≡ packed p.code p.value
-    → ReportsList lim w c x old new r
-reports_list lim w c x old new p r l e = record {
-  broken = λ b. (e ∙ ap (λ (y : Returned). packed y.code y.value) (l.answer.broken b), l.broken b);
-  answer = λ g. e ∙ ap (λ (y : Returned). packed y.code y.value) (l.answer.told g);
-  written = λ g. l.written g;
-}
-
--- ---- bounds
-
--- the four stores of the code, marks first
-pub bounds_front : (xs : List ℤ) (m : ℕ) (a : ℤ) (n : ℕ) (b : ℤ) → 4 ≤ length xs → m ≤ 2 → n ≤ 2 → SFits w64 a → SFits w64 b
-    → set (set (set (set xs 0 (to_z w64 m)) 1 (to_z w64 (of_z w64 a))) 2 (to_z w64 n)) 3 (to_z w64 (of_z w64 b)) ≡ fronted (pos m ∷ a ∷ pos n ∷ b ∷ []) xs
-bounds_front xs m a n b h j k f g =
-    rw (natural m (omega arith), natural n (omega arith), to_z-of_z w64 a f, to_z-of_z w64 b g) (four_front xs (pos m) a (pos n) b h)
+use Rattle.c_reports.proofs.Sizes.{reply_by}
 
 -- the words that the paper's numbers make
 abbrev pub paper_words : Returned → List ℤ
@@ -54,14 +28,6 @@ paper_words p = pos p.least_mark ∷ p.least ∷ pos p.greatest_mark ∷ p.great
 
 coded : {A : Type 0} {k : ℕ} → suc k ≡ 0 → A
 coded e = let b : ⊥ = omega arith in absurd b
-
-mark_small : (v : Extended) → infinity v ≤ 2
-mark_small below = omega arith
-mark_small (at z) = omega arith
-mark_small above = omega arith
-
-abbrev Marked : Returned → Type 0
-Marked p = (p.least_mark ≤ 2) × (p.greatest_mark ≤ 2)
 
 module _ (q : State) (k : ℕ) where
   abbrev o : Outcome
@@ -75,25 +41,9 @@ module _ (q : State) (k : ℕ) where
   plain : Plain o.answer
   plain = reply_by (λ y. Plain y.answer) q (a_report (bounds k) 0) (λ e. coded e) ((λ e. coded e), ((λ e. coded e), tt)) tt
 
-  marked : Marked (returned_by o.answer)
-  marked =
-      let j = numbered no_sentence_judged k q.sentences in
-      reply_by (λ y. Marked (returned_by y.answer)) q (a_report (bounds k) 0) (omega arith, omega arith) ((omega arith, omega arith), ((omega arith, omega arith), tt))
-      (mark_small (j.least (trail q.rows)), mark_small (j.greatest (trail q.rows)))
-
 module _ {lim : Limits} {w : List ℕ} {c : Counters} {k : ℕ} {found : Bounds} (a : Answered lim w c (a_report (bounds k) 0) (bounds_returned found)) where
   abbrev q : State
   q = area_state lim w
-
-  pub least_marked : found.least_mark ≤ 2
-  least_marked =
-      settled lim w c found.least_mark 2 (λ g. omega (arith, ap (λ (y : Returned). y.least_mark) (a.told g), (marked q k).0))
-      (λ b. omega (arith, ap (λ (y : Returned). y.least_mark) (a.broken b)))
-
-  pub greatest_marked : found.greatest_mark ≤ 2
-  greatest_marked =
-      settled lim w c found.greatest_mark 2 (λ g. omega (arith, ap (λ (y : Returned). y.greatest_mark) (a.told g), (marked q k).1))
-      (λ b. omega (arith, ap (λ (y : Returned). y.greatest_mark) (a.broken b)))
 
   module _ (out : List ℤ) where
     abbrev room : ℕ

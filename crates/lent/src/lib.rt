@@ -1,4 +1,4 @@
-// The two forms of document 01 whose proofs walk the code by hand: load's entries lent as a list of records, and the counters lent to be
+// The two forms of document 01 that lend structs: load's entries lent as a list of records, and the counters lent to be
 // changed in the caller's hands. Each function is thin: a public call of `dalelead` does the work, and its contract is the contract here.
 #![tactic(auto)]
 

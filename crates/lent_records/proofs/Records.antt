@@ -11,10 +11,9 @@ use lib.Seq.{take-length, take-suc, take-suc-set}
 use lib.Dec.{eqb, ltb}
 use borrow.Author.Tests.{lt-ltb}
 use Rattle.types.specs.declared.Limits.{Limits}
-use Rattle.columns.specs.Columns.{Columns, seven_columns}
+use Rattle.columns.specs.Columns.{Columns}
 use Rattle.columns.specs.Refusals.{misshapen}
 use Rattle.columns.specs.Indexed.{sizes, unequal_sizes}
-use Rattle.columns.specs.declared.Answer.{Answer}
 use Rattle.decide.proofs.Below.{or_left, or_right}
 use Rattle.columns.proofs.Shapes.{limits_passed, counts_add_up, misshapen_is}
 use Rattle.columns.proofs.Answers.{answer_1}
@@ -89,17 +88,6 @@ module _ (most : ℕ) where
 -- ---- load, of at most or of more than `most` records
 
 module _ (lim : Limits) (most : ℕ) (w : List ℕ) (n : ℕ) where
-  -- the fronts are the columns of the records
-  pub fronts : (w' heads kinds sides : List ℕ) (bounds : List ℤ) (counts : List ℕ) (r : Copied) (a : Answer) → r.count ≤ most
-      → Loads lim w w' n (seven_columns heads kinds sides bounds counts (take r.count r.weights) (take r.count r.literals)) a
-      → (rs : List Weighted) → CopyOf most rs r → Loads lim w w' n (seven_columns heads kinds sides bounds counts (weights_in rs) (literals_in rs)) a
-  fronts w' heads kinds sides bounds counts r a few loads rs copy =
-      let l : length rs ≤ most = omega (arith, copy.count_is) in
-      let ws : take r.count r.weights ≡ weights_in rs = ap (λ (k : ℕ). take k r.weights) copy.count_is ∙ copy.weights_are l in
-      let ls : take r.count r.literals ≡ literals_in rs = ap (λ (k : ℕ). take k r.literals) copy.count_is ∙ copy.literals_are l in
-      subst (λ (y : List ℤ). Loads lim w w' n (seven_columns heads kinds sides bounds counts (weights_in rs) y) a) ls
-      (subst (λ (x : List ℤ). Loads lim w w' n (seven_columns heads kinds sides bounds counts x (take r.count r.literals)) a) ws loads)
-
   many_misshapen : (c : Columns) → lim.entries < length c.weights → misshapen lim n c ≡ true
   many_misshapen c many =
       let limits : limits_passed lim n c ≡ true =

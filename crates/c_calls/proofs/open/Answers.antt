@@ -11,16 +11,16 @@ use Rattle.c_calls.proofs.open.Goals as goal
 pub returns-then-refused-ne0 : goal.returns-then-refused-ne0
 returns-then-refused-ne0 c =
     let u : Usable c.args.lim c.args.area.now (counters_with c.args.length c.args.level) =
-        record { fitting = c.requires; whole = c.is_whole.ensures.yes c.if-not-is_whole.false } in
+    record { fitting = c.requires; whole = c.is_whole.ensures.yes c.if-not-is_whole.false } in
     let code : c.open_refusal-code.result ≡ refusal_code c.args.lim c.args.area.now open_level = c.open_refusal-code.ensures c.args.area.now u.whole.level_is in
     let asked : Asked c.args.lim c.args.area.now (counters_with c.args.length c.args.level) open_level next_counters c.args.next.now
-        c.open_refusal-code.result c.early-refused.result = record { whole = u.whole; code = code; number = c.early-refused.ensures } in
+    c.open_refusal-code.result c.early-refused.result = record { whole = u.whole; code = code; number = c.early-refused.ensures } in
     changes_early asked c.if-refused-ne0.true
 
 pub returns : goal.returns
 returns c =
     let u : Usable c.args.lim c.args.area.now (counters_with c.args.length c.args.level) =
-        record { fitting = c.requires; whole = c.is_whole.ensures.yes c.if-not-is_whole.false } in
+    record { fitting = c.requires; whole = c.is_whole.ensures.yes c.if-not-is_whole.false } in
     let code : c.open_refusal-code.result ≡ refusal_code c.args.lim c.args.area.now open_level = c.open_refusal-code.ensures c.args.area.now u.whole.level_is in
     let asked : Asked c.args.lim c.args.area.now (counters_with c.args.length c.args.level) open_level next_counters c.args.next.now
         c.open_refusal-code.result c.early-refused.result = record { whole = u.whole; code = code; number = c.early-refused.ensures } in

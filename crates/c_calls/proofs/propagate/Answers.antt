@@ -27,7 +27,7 @@ returns-in-Still c =
 pub answer-requires : goal.answer-requires
 answer-requires c =
     let u : Usable c.args.lim c.args.area.now (counters_with c.args.length c.args.level) =
-        record { fitting = c.requires; whole = c.is_whole.ensures.yes c.if-not-is_whole.false } in
+    record { fitting = c.requires; whole = c.is_whole.ensures.yes c.if-not-is_whole.false } in
     sentence_small u.whole refl (c.in-Conflict.ensures.0 c.args.lim u)
 
 pub returns-in-Conflict : goal.returns-in-Conflict

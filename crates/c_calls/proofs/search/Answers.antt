@@ -20,43 +20,43 @@ early-refused-requires c =
 pub returns-then-refused-ne0 : goal.returns-then-refused-ne0
 returns-then-refused-ne0 c =
     let u : Usable c.args.lim c.args.area.now (counters_with c.args.length c.args.level) =
-        record { fitting = c.requires; whole = c.is_whole.ensures.yes c.if-not-is_whole.false } in
+    record { fitting = c.requires; whole = c.is_whole.ensures.yes c.if-not-is_whole.false } in
     let code : c.search_refusal-code.result ≡ refusal_code c.args.lim c.args.area.now (table.search c.args.literals.now) = c.search_refusal-code.ensures c.args.lim in
     let asked : Asked c.args.lim c.args.area.now (counters_with c.args.length c.args.level) (table.search c.args.literals.now) next_searched c.args.next.now
-        c.search_refusal-code.result c.early-refused.result = record { whole = u.whole; code = code; number = c.early-refused.ensures } in
+    c.search_refusal-code.result c.early-refused.result = record { whole = u.whole; code = code; number = c.early-refused.ensures } in
     changes_early asked c.if-refused-ne0.true
 
 pub search_whole-told-requires : goal.search_whole-told-requires
 search_whole-told-requires c =
     let u : Usable c.args.lim c.args.area.now (counters_with c.args.length c.args.level) =
-        record { fitting = c.requires; whole = c.is_whole.ensures.yes c.if-not-is_whole.false } in
+    record { fitting = c.requires; whole = c.is_whole.ensures.yes c.if-not-is_whole.false } in
     let code : c.search_refusal-code.result ≡ refusal_code c.args.lim c.args.area.now (table.search c.args.literals.now) = c.search_refusal-code.ensures c.args.lim in
     let asked : Asked c.args.lim c.args.area.now (counters_with c.args.length c.args.level) (table.search c.args.literals.now) next_searched c.args.next.now
-        c.search_refusal-code.result c.early-refused.result = record { whole = u.whole; code = code; number = c.early-refused.ensures } in
+    c.search_refusal-code.result c.early-refused.result = record { whole = u.whole; code = code; number = c.early-refused.ensures } in
     let known : AllKnown (atoms_of c.args.area.now) c.args.literals.now =
-        all_known c.args.lim c.args.area.now c.args.literals.now (passed asked c.if-refused-ne0.false) in
+    all_known c.args.lim c.args.area.now c.args.literals.now (passed asked c.if-refused-ne0.false) in
     record { usable = u; known = known }
 
 pub answer-requires : goal.answer-requires
 answer-requires c =
     let u : Usable c.args.lim c.args.area.now (counters_with c.args.length c.args.level) =
-        record { fitting = c.requires; whole = c.is_whole.ensures.yes c.if-not-is_whole.false } in
+    record { fitting = c.requires; whole = c.is_whole.ensures.yes c.if-not-is_whole.false } in
     let code : c.search_refusal-code.result ≡ refusal_code c.args.lim c.args.area.now (table.search c.args.literals.now) = c.search_refusal-code.ensures c.args.lim in
     let asked : Asked c.args.lim c.args.area.now (counters_with c.args.length c.args.level) (table.search c.args.literals.now) next_searched c.args.next.now
-        c.search_refusal-code.result c.early-refused.result = record { whole = u.whole; code = code; number = c.early-refused.ensures } in
+    c.search_refusal-code.result c.early-refused.result = record { whole = u.whole; code = code; number = c.early-refused.ensures } in
     let known : AllKnown (atoms_of c.args.area.now) c.args.literals.now =
-        all_known c.args.lim c.args.area.now c.args.literals.now (passed asked c.if-refused-ne0.false) in
+    all_known c.args.lim c.args.area.now c.args.literals.now (passed asked c.if-refused-ne0.false) in
     let acts = acts_searched _ _ _ _ u.whole known _ _ c.search_whole-told.ensures in
     sentence_small u.whole (passed asked c.if-refused-ne0.false) acts
 
 pub returns : goal.returns
 returns c =
     let u : Usable c.args.lim c.args.area.now (counters_with c.args.length c.args.level) =
-        record { fitting = c.requires; whole = c.is_whole.ensures.yes c.if-not-is_whole.false } in
+    record { fitting = c.requires; whole = c.is_whole.ensures.yes c.if-not-is_whole.false } in
     let code : c.search_refusal-code.result ≡ refusal_code c.args.lim c.args.area.now (table.search c.args.literals.now) = c.search_refusal-code.ensures c.args.lim in
     let asked : Asked c.args.lim c.args.area.now (counters_with c.args.length c.args.level) (table.search c.args.literals.now) next_searched c.args.next.now
-        c.search_refusal-code.result c.early-refused.result = record { whole = u.whole; code = code; number = c.early-refused.ensures } in
+    c.search_refusal-code.result c.early-refused.result = record { whole = u.whole; code = code; number = c.early-refused.ensures } in
     let known : AllKnown (atoms_of c.args.area.now) c.args.literals.now =
-        all_known c.args.lim c.args.area.now c.args.literals.now (passed asked c.if-refused-ne0.false) in
+    all_known c.args.lim c.args.area.now c.args.literals.now (passed asked c.if-refused-ne0.false) in
     let acts = acts_searched _ _ _ _ u.whole known _ _ c.search_whole-told.ensures in
     changes_done asked c.if-refused-ne0.false four_words refl acts c.put_four.ensures c.answer.ensures

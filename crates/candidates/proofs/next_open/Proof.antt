@@ -43,30 +43,6 @@ told_value : (c : tie.After-value_at invariant-loop-j decreases-loop-j)
 told_value c = c.value_at.ensures ∙ ap₂ {A = ℕ} {B = ℕ} (value_at c.before.before.before.before.before.before.before.args.area.now)
     c.before.before.before.before.before.atoms_of-n.ensures (at c.before).is
 
-returns : tie.Need-returns-then-value_at-eq0 invariant-loop-j decreases-loop-j
-returns c = λ lim had whole. let i = c.before.before.before.before.before.loop-j.invariant in
-    let a = at c.before.before in
-    record {
-      later = i.0;
-      inside = i.1;
-      passed = i.2 lim had whole;
-      is_open = λ l. open_off_trail lim _ had whole _ a.low a.high (sym (told_value c.before) ∙ c.if-value_at-eq0.true);
-    }
-
-loop_again : tie.Need-loop-j-preserved invariant-loop-j decreases-loop-j
-loop_again c = let i = c.before.before.before.before.before.loop-j.invariant in
-    let a = at c.before.before in
-    let ls = c.before.before.before.before.before.before.before.before.args.literals.now in
-    let f : suc c.before.before.before.before.before.loop-j.j ≡ c.before.before.before.before.before.loop-j.j + 1 = omega arith in (
-      omega (arith, i.0),
-      omega arith,
-      λ lim had whole total. let q = area_state lim c.before.before.before.before.before.before.before.before.args.area.now in
-          i.2 lim had whole total
-          ∙ try_passed q ls c.before.before.before.before.before.loop-j.j total (omega arith)
-          (taken_on_trail lim _ had whole _ a.low a.high (λ z. c.if-value_at-eq0.false (told_value c.before ∙ z)))
-          ∙ ap {A = ℕ} (λ k. trying q total k (drop k ls)) f,
-    )
-
 pub next_open_spec : {M : Type 1} → statement M
 next_open_spec = tie.close (tie.spec
     invariant-loop-j decreases-loop-j (λ c κs. let h = c.before.requires.searchable.usable.whole in omega (arith, h.enough, h.theory.atoms_low))
@@ -77,6 +53,27 @@ next_open_spec = tie.close (tie.spec
       omega
           (arith, c.before.before.before.before.atoms_of-n.ensures, h.enough, h.theory.atoms_low, a.is, a.high),
     ))
-    returns (λ c. search rules) (λ c. search rules) loop_again
+    (λ c. λ lim had whole. let i = c.before.before.before.before.before.loop-j.invariant in
+    let a = at c.before.before in
+    let free : c.value_at.result ≡ 0 = omega arith in
+    record {
+      later = i.0;
+      inside = i.1;
+      passed = i.2 lim had whole;
+      is_open = λ l. open_off_trail lim _ had whole _ a.low a.high (sym (told_value c.before) ∙ free);
+    })
+    (λ c. search rules) (λ c. search rules)
+    (λ c. let i = c.before.before.before.before.before.loop-j.invariant in
+    let a = at c.before.before in
+    let ls = c.before.before.before.before.before.before.before.before.args.literals.now in
+    let f : suc c.before.before.before.before.before.loop-j.j ≡ c.before.before.before.before.before.loop-j.j + 1 = omega arith in (
+      omega (arith, i.0),
+      omega arith,
+      λ lim had whole total. let q = area_state lim c.before.before.before.before.before.before.before.before.args.area.now in
+          i.2 lim had whole total
+          ∙ try_passed q ls c.before.before.before.before.before.loop-j.j total (omega arith)
+          (taken_on_trail lim _ had whole _ a.low a.high (λ z. let d : c.value_at.result ≡ 0 = told_value c.before ∙ z in omega arith))
+          ∙ ap {A = ℕ} (λ k. trying q total k (drop k ls)) f,
+    ))
     (λ c. λ lim had whole. let i = c.before.loop-j.invariant in
     record { later = i.0; inside = i.1; passed = i.2 lim had whole; is_open = λ l. let b : ⊥ = omega (arith, l) in absurd b }))

@@ -22,19 +22,19 @@ loop_again c = let s = c.before.before.before.before.before.before in
       elim c.if-is_chosen.branch [ then-is_chosen y ↦ omega (arith, y.found-is) | else-is_chosen y ↦ omega (arith, y.found-is) ],
       elim c.if-is_chosen.branch [
         | then-is_chosen y ↦ omega (
-            arith,
-            y.found-is,
-            c.before.before.before.loop-i.invariant.2,
-            counted_more s.args.area.now s.args.n s.args.marks.now
-                c.before.before.before.loop-i.i (told ∙ y.if-is_chosen.true),
-          )
+          arith,
+          y.found-is,
+          c.before.before.before.loop-i.invariant.2,
+          counted_more s.args.area.now s.args.n s.args.marks.now
+              c.before.before.before.loop-i.i (told ∙ y.if-is_chosen.true),
+        )
         | else-is_chosen y ↦ omega (
-            arith,
-            y.found-is,
-            c.before.before.before.loop-i.invariant.2,
-            counted_same s.args.area.now s.args.n s.args.marks.now
-                c.before.before.before.loop-i.i (told ∙ y.if-is_chosen.false),
-          )
+          arith,
+          y.found-is,
+          c.before.before.before.loop-i.invariant.2,
+          counted_same s.args.area.now s.args.n s.args.marks.now
+              c.before.before.before.loop-i.i (told ∙ y.if-is_chosen.false),
+        )
       ],
     )
 

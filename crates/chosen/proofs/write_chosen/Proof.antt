@@ -58,10 +58,10 @@ loop_again c = let s = c.before.before.before.before.before.before in
       ],
       elim c.if-is_chosen.branch [
         | then-is_chosen y ↦
-          let e = told ∙ y.if-is_chosen.true in
-          let more = never_fewer w n m (x.i + 1) s.args.rows (omega arith) in
-          rw y.list-is (one_written w n m x.i _ _ x.invariant.2 e (omega (arith, s.requires.1, more, counted_more w n m x.i e)) x.at x.invariant.1 _
-          (to_z-of_z w64 y.literal_of.result (search rules) ∙ y.literal_of.ensures ∙ ap {A = ℕ} literal_of y.literal_at.ensures))
+            let e = told ∙ y.if-is_chosen.true in
+            let more = never_fewer w n m (x.i + 1) s.args.rows (omega arith) in
+            rw y.list-is (one_written w n m x.i _ _ x.invariant.2 e (omega (arith, s.requires.1, more, counted_more w n m x.i e)) x.at x.invariant.1 _
+            (to_z-of_z w64 y.literal_of.result (search rules) ∙ y.literal_of.ensures ∙ ap {A = ℕ} literal_of y.literal_at.ensures))
         | else-is_chosen y ↦ rw y.list-is (same_written w n m x.i _ _ (told ∙ y.if-is_chosen.false) x.invariant.2)
       ],
     )

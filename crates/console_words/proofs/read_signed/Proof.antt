@@ -14,12 +14,12 @@ read_signed_spec = tie.close (tie.spec
     (λ c κs. search rules)
     (λ c. let s = c.before.before.before.before.before.before.before in let w = s.args.word.now in
     c.plus.ensures ∙ ap plus (c.before.read_unsigned.ensures ∙ ap unsigned_of (rest_is w 1))
-    ∙ sym (plus_sign w (omega arith) c.before.before.before.if-word-eq43.true))
+    ∙ sym (plus_sign w (omega arith) (omega arith)))
     (λ c. search rules) (λ c. search rules) (λ c. search rules) (λ c. search rules) (λ c κs. search rules) (λ c κs. search rules)
     (λ c. let s = c.before.before.before.before.before.before.before.before.before in let w = s.args.word.now in
     c.minus.ensures ∙ ap minus (c.before.read_unsigned-then-word-eq45.ensures ∙ ap unsigned_of (rest_is w 1))
-    ∙ sym (minus_sign w (omega arith) c.before.before.before.if-word-eq45.true))
+    ∙ sym (minus_sign w (omega arith) (omega arith)))
     (λ c κs. search rules) (λ c κs. search rules)
     (λ c. let i2 = c.before.before.before.before in let s = i2.before.before.before.before in let w = s.args.word.now in
     c.plus-2.ensures ∙ ap plus c.before.read_unsigned-2.ensures
-    ∙ sym (unsigned_digits w (omega arith) i2.if-word-eq43.false c.before.before.if-word-eq45.false)))
+    ∙ sym (unsigned_digits w (omega arith) (λ e. omega (arith, e)) (λ e. omega (arith, e)))))

@@ -23,8 +23,8 @@ second_spec = tie.close (tie.spec
     invariant-loop-i decreases-loop-i (λ c κs. search rules) (λ c κs. search rules)
     (λ c. let e : c.if-up.none ≡ empty_word (best_kind c.before.before.args.up) =
     elim c.if-up.branch [
-      then-up x ↦ x.none-is ∙ x.empty-none.ensures ∙ ap (λ u. empty_word (best_kind u)) (sym x.if-up.true)
-    | else-up x ↦ x.none-is ∙ x.empty-none-else-up.ensures ∙ ap (λ u. empty_word (best_kind u)) (sym x.if-up.false)
+      | then-up x ↦ x.none-is ∙ x.empty-none.ensures ∙ ap (λ u. empty_word (best_kind u)) (sym x.if-up.true)
+      | else-up x ↦ x.none-is ∙ x.empty-none-else-up.ensures ∙ ap (λ u. empty_word (best_kind u)) (sym x.if-up.false)
     ] in
     (omega arith, seconds_start e, e))
     (λ c κs. search entry_inside) (λ c κs. search rules) (λ c κs. search rules) (λ c κs. search rules) (λ c κs. search rules) (λ c. search rules)

@@ -42,15 +42,15 @@ sentences_again c =
         silent_next a.area.now a.n a.sentences s h inv.2 (known_here known x.in-Silent.is).said_is,
       )
       | in-Undecided+else-loop-i-test x ↦
-        let i = x.loop-i.i in
-        let more : i ≤ x.in-Undecided.body.merged = x.loop-i.invariant.0 in
-        let done = x.loop-i-test.false in
-        let e : i ≡ x.in-Undecided.body.merged = omega arith in (
-          omega arith,
-          x.found-is ∙ x.loop-i.invariant.1,
-          silent_next a.area.now a.n a.sentences s h inv.2
-          (scanned_none h inv.2 (known_here known x.in-Undecided.is) x.loop-i.invariant.3 e),
-        )
+          let i = x.loop-i.i in
+          let more : i ≤ x.in-Undecided.body.merged = x.loop-i.invariant.0 in
+          let done = x.loop-i-test.false in
+          let e : i ≡ x.in-Undecided.body.merged = omega arith in (
+            omega arith,
+            x.found-is ∙ x.loop-i.invariant.1,
+            silent_next a.area.now a.n a.sentences s h inv.2
+                (scanned_none h inv.2 (known_here known x.in-Undecided.is) x.loop-i.invariant.3 e),
+          )
     ]
 
 pub find_spec : {M : Type 1} → statement M

@@ -37,9 +37,9 @@ loop_again c = let q = c.before.before.before.before.before.before.before in
       omega arith,
       elim c.if-p-limit.branch [
         | then-p-limit y ↦ rw y.marks-is (cause_named _ _ _ s _ _ q.requires.0 q.requires.1 _ _ c.before.before.before.loop-place.invariant.1 _ told
-          more y.if-p-limit.true)
+            more y.if-p-limit.true)
         | else-p-limit y ↦ rw y.marks-is (nothing_named _ _ _ s _ _ q.requires.0 q.requires.1 _ _ c.before.before.before.loop-place.invariant.1 _ told
-          more y.if-p-limit.false)
+            more y.if-p-limit.false)
       ],
     )
 

@@ -23,9 +23,9 @@ loop_again c = let s = c.before.before.before.before.before.before in
       elim c.if-cause_at-limit.branch [ then-cause_at-limit x ↦ omega arith | else-cause_at-limit x ↦ omega arith ],
       elim c.if-cause_at-limit.branch [
         | then-cause_at-limit x ↦ rw x.found-is (counted_more s.requires c.before.before.before.loop-place.place more told
-          c.before.before.before.loop-place.found x.if-cause_at-limit.true c.before.before.before.loop-place.invariant.2)
+            c.before.before.before.loop-place.found x.if-cause_at-limit.true c.before.before.before.loop-place.invariant.2)
         | else-cause_at-limit x ↦ rw x.found-is (counted_same s.requires c.before.before.before.loop-place.place more told
-          c.before.before.before.loop-place.found x.if-cause_at-limit.false c.before.before.before.loop-place.invariant.2)
+            c.before.before.before.loop-place.found x.if-cause_at-limit.false c.before.before.before.loop-place.invariant.2)
       ],
     )
 

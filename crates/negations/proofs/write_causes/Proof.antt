@@ -38,10 +38,10 @@ loop_again c = let p = c.before.before.before.before.before.before.requires in
       omega arith,
       elim c.if-row-limit.branch [
         | then-row-limit x ↦ rw (x.at-is, x.list-is) (writing_more p.0 i (more c.before.before) told c.before.before.before.loop-place.invariant.1 p.1
-          x.if-row-limit.true
-          (to_z-of_z w64 x.negated.result (search rules) ∙ x.negated.ensures ∙ ap {A = ℕ} (λ y. neg_ℤ (literal_of y)) x.literal_at.ensures))
+            x.if-row-limit.true
+            (to_z-of_z w64 x.negated.result (search rules) ∙ x.negated.ensures ∙ ap {A = ℕ} (λ y. neg_ℤ (literal_of y)) x.literal_at.ensures))
         | else-row-limit x ↦ rw (x.at-is, x.list-is)
-          (writing_same p.0 i (more c.before.before) told c.before.before.before.loop-place.invariant.1 x.if-row-limit.false)
+            (writing_same p.0 i (more c.before.before) told c.before.before.before.loop-place.invariant.1 x.if-row-limit.false)
       ],
     )
 
