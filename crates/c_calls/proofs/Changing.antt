@@ -2,7 +2,7 @@
 -- few, or it is done and hands back what the outcome says, since the counters after a call are those of its outcome.
 use mathlib.Core.Path.{◌≡◌, refl, sym, ap, ap₂, ◌∙◌, subst}
 use mathlib.Core.Bool.{Bool, true, false, not, cond, ◌||◌}
-use mathlib.Core.List.{List}
+use mathlib.Core.List.{List, [], ◌∷◌}
 use Prim.Native.Nat.{ℕ, zero, suc, ◌<◌, ◌≤◌}
 use native.Mathlib.Omega.{arith}
 use lib.ListN.{length}
@@ -22,24 +22,30 @@ use Rattle.trail_check.proofs.Rows.{rows_length}
 use Rattle.trail.proofs.Rows.{up_to_all}
 use Rattle.give.specs.Inner.Refused.{refusal_code}
 use Rattle.give.proofs.Refused.{replied}
-use Rattle.c_interface.specs.Interface.{packed, one_number, told, refuses, fronted, after, Changes}
-use Rattle.c_interface.proofs.Numbers.{passes, short_only, short_number, done_number}
+use Rattle.c_interface.specs.Interface.{packed, told, refuses, fronted, next_counted, Changes}
+use Rattle.c_interface.specs.Inner.Numbers.{one_number, number_of, stopped}
+use Rattle.c_interface.proofs.Numbers.{passes, short_only, refused_number, short_number, done_number}
+use Rattle.c_interface.proofs.Telling.{Plain, told_number, refuses_stopped}
 
 -- ---- an effect is no refusal
 
 abbrev Accepted : Answer → Type 0
-Accepted a = ((returned_by a).code ≡ 0) × (is_refusal a ≡ false)
+Accepted a = ((returned_by a).code ≡ 0) × ((is_refusal a ≡ false) × Plain a)
 
 ended_accepted : (k n : ℕ) → Accepted (ended k n)
-ended_accepted zero n = (refl, refl)
-ended_accepted (suc k) n = (refl, refl)
+ended_accepted zero n = (refl, (refl, tt))
+ended_accepted (suc k) n = (refl, (refl, tt))
 
 accepted : (q : State) (x : Step) → Accepted (step_effect q x).answer
-accepted q (give l) = (refl, refl)
-accepted q open_level = (refl, refl)
-accepted q (take_back k) = (refl, refl)
+accepted q (give l) = (refl, (refl, tt))
+accepted q open_level = (refl, (refl, tt))
+accepted q (take_back k) = (refl, (refl, tt))
 accepted q propagate = ended_accepted (propagated q).sentence (put_on q)
-accepted q (search ls) = (refl, refl)
+accepted q (search ls) = (refl, (refl, tt))
+
+-- the counters after an outcome
+abbrev after : Outcome → Counters
+after o = counters_with (length o.rows) o.level
 
 opposed : {A : Type 0} → false ≡ true → A
 opposed e = absurd (subst (λ (b : Bool). T (not b)) e tt)
@@ -66,7 +72,7 @@ module _ (lim : Limits) (w : List ℕ) (c : Counters) (x : Step) (h : Whole lim 
 
     -- no refusal, so it keeps the words only where it is idle
     keeps_idle : unmoved q x ≡ idle q x
-    keeps_idle = ap {A = Bool} (λ b. b || idle q x) (ap (λ (o : Outcome). is_refusal o.answer) effects ∙ (accepted q x).1)
+    keeps_idle = ap {A = Bool} (λ b. b || idle q x) (ap (λ (o : Outcome). is_refusal o.answer) effects ∙ (accepted q x).1.0)
 
     counts : {w' : List ℕ} {c' : Counters} {p : Returned} → Acts lim w w' c c' x p → c' ≡ after (reply q (a_step x))
     counts {w'} {c'} a = go (idle q x) refl
@@ -86,18 +92,36 @@ outcome lim w x = reply (area_state lim w) (a_step x)
 abbrev numbers : Limits → List ℕ → Step → Returned
 numbers lim w x = returned_by (outcome lim w x).answer
 
+-- a refusal has a code, and an effect is no list
+plain : (lim : Limits) (w : List ℕ) (x : Step) → Plain (outcome lim w x).answer
+plain lim w x = go (eqb (refusal_code lim w x) 0) refl
+  where
+    go : (b : Bool) → eqb (refusal_code lim w x) 0 ≡ b → Plain (outcome lim w x).answer
+    go true t =
+        subst (λ (o : Outcome). Plain o.answer) (sym ((replied lim w x).passes (eqb-true (refusal_code lim w x) 0 t))) (accepted (area_state lim w) x).1.1
+    go false t =
+        let d : ¬ (refusal_code lim w x ≡ 0) = eqb-false (refusal_code lim w x) 0 t in
+        subst (λ (o : Outcome). Plain o.answer) (sym ((replied lim w x).refuses d)) d
+
 -- of what is handed back
-abbrev size : Limits → List ℕ → Step → (Counters → Returned → List ℕ) → ℕ
-size lim w x handed = length (handed (after (outcome lim w x)) (numbers lim w x))
+abbrev size : Limits → List ℕ → Step → (Outcome → List ℕ) → ℕ
+size lim w x handed = length (handed (outcome lim w x))
 
 -- r is the number of the call's refusal, of code k, or of too few lent words
-pub record Asked (lim : Limits) (w : List ℕ) (c : Counters) (x : Step) (handed : Counters → Returned → List ℕ) (out : List ℕ) (k r : ℕ) : Type 0 where
+pub record Asked (lim : Limits) (w : List ℕ) (c : Counters) (x : Step) (handed : Outcome → List ℕ) (out : List ℕ) (k r : ℕ) : Type 0 where
   pub whole : Whole lim w c
   pub code : k ≡ refusal_code lim w x
   pub number : r ≡ one_number k 0 (size lim w x handed) (length out) 0
 
-module _ {lim : Limits} {w : List ℕ} {c : Counters} {x : Step} {handed : Counters → Returned → List ℕ} {out : List ℕ} {k r : ℕ}
+module _ {lim : Limits} {w : List ℕ} {c : Counters} {x : Step} {handed : Outcome → List ℕ} {out : List ℕ} {k r : ℕ}
     (asked : Asked lim w c x handed out k r) where
+  -- the answer in one number, and whether it is refused, by the paper's numbers
+  telling : told (outcome lim w x).answer (size lim w x handed) (length out) ≡ number_of (numbers lim w x) (size lim w x handed) (length out)
+  telling = told_number (size lim w x handed) (length out) (outcome lim w x).answer (plain lim w x)
+
+  stopping : refuses (outcome lim w x).answer (size lim w x handed) (length out) ≡ stopped (numbers lim w x) (size lim w x handed) (length out)
+  stopping = refuses_stopped (size lim w x handed) (length out) (outcome lim w x).answer (plain lim w x)
+
   passed_code : k ≡ 0 → (numbers lim w x).code ≡ 0
   passed_code z = ap (λ (y : Outcome). (returned_by y.answer).code) (effects lim w c x asked.whole (sym asked.code ∙ z)) ∙ (accepted (area_state lim w) x).0
 
@@ -114,10 +138,10 @@ module _ {lim : Limits} {w : List ℕ} {c : Counters} {x : Step} {handed : Count
             answer = λ _.
                 let p = numbers lim w x in
                 asked.number ∙ sym (short_number k 0 (size lim w x handed) (length out) 0 z few)
-                ∙ short_number p.code p.value (size lim w x handed) (length out) p.sentence (passed_code z) few;
+                ∙ short_number p.code p.value (size lim w x handed) (length out) p.sentence (passed_code z) few ∙ sym telling;
             kept = λ _ _. (refl, refl);
             written = λ _ s.
-                absurd (subst (λ (b : Bool). T (not b)) (or_right (not (eqb (numbers lim w x).code 0)) (ltb (length out) (size lim w x handed)) told) s);
+                absurd (subst (λ (b : Bool). T (not b)) (or_right (is_refusal (outcome lim w x).answer) (ltb (length out) (size lim w x handed)) told) s);
             idle = λ _ _. refl;
             moved = λ _ _ s. absurd (subst (λ (b : Bool). T (not b)) told s);
           }
@@ -126,11 +150,11 @@ module _ {lim : Limits} {w : List ℕ} {c : Counters} {x : Step} {handed : Count
           (replied lim w x).refuses (λ z. eqb-false k 0 t (asked.code ∙ z)) ∙ ap {A = ℕ} (λ j. unchanged (area_state lim w) (refused j 0)) (sym asked.code) in
           record {
             broken = λ b. absurd (b asked.whole);
-            answer = λ _. asked.number ∙ ap (λ (y : Outcome). told (returned_by y.answer) (size lim w x handed) (length out)) (sym e);
+            answer = λ _.
+                asked.number ∙ sym (refused_number k 0 (size lim w x handed) (length out) 0 (eqb-false k 0 t))
+                ∙ ap (λ (y : Outcome). told y.answer (size lim w x handed) (length out)) (sym e);
             kept = λ _ _. (refl, refl);
-            written = λ _ s.
-                absurd (subst (λ (b : Bool). T (not (not b || ltb (length out) (size lim w x handed)))) t
-                (subst (λ (y : Outcome). T (not (refuses (returned_by y.answer) (size lim w x handed) (length out)))) e s));
+            written = λ _ s. absurd (subst (λ (y : Outcome). T (not (refuses y.answer (size lim w x handed) (length out)))) e s);
             idle = λ _ _. refl;
             moved = λ _ s _. absurd (subst (λ (y : Outcome). T (not (is_refusal y.answer || idle (area_state lim w) x))) e s);
           }
@@ -142,22 +166,49 @@ module _ {lim : Limits} {w : List ℕ} {c : Counters} {x : Step} {handed : Count
     pub enough : size lim w x handed ≤ length out
     enough = (passes k 0 (size lim w x handed) (length out) (sym asked.number ∙ zero)).1
 
-    pub changes_done : {w' : List ℕ} {c' : Counters} {y : Returned} {out' : List ℕ} {s : ℕ} → Acts lim w w' c c' x y → out' ≡ fronted (handed c' y) out
+    -- `given` is what the code hands back: by the counters after the call and the numbers of its answer
+    pub changes_done : {w' : List ℕ} {c' : Counters} {y : Returned} {out' : List ℕ} {s : ℕ} (given : Counters → Returned → List ℕ)
+        → given (after (outcome lim w x)) (numbers lim w x) ≡ handed (outcome lim w x) → Acts lim w w' c c' x y → out' ≡ fronted (given c' y) out
         → s ≡ packed 0 y.sentence → Changes lim w w' c x handed out out' s
-    changes_done {w'} {c'} {y} a front e =
+    changes_done {w'} {c'} {y} given same a front e =
         let is = a.answer.told asked.whole in
         let pass = passed_code (asked.code ∙ passed) in
         record {
           broken = λ b. absurd (b asked.whole);
           answer = λ _.
               let p = numbers lim w x in
-              e ∙ ap (λ (u : Returned). packed 0 u.sentence) is ∙ done_number p.code p.value (size lim w x handed) (length out) p.sentence pass enough;
+              e ∙ ap (λ (u : Returned). packed 0 u.sentence) is ∙ done_number p.code p.value (size lim w x handed) (length out) p.sentence pass enough ∙ sym telling;
           kept = λ _ t.
-              absurd (subst T (ap₂ {A = Bool} {B = Bool} (λ u v. not u || v) (eq-eqb (numbers lim w x).code 0 pass) (le-ltb (length out) (size lim w x handed) enough)) t);
-          written = λ _ _. front ∙ ap₂ {A = Counters} {B = Returned} (λ d u. fronted (handed d u) out) (counts lim w c x asked.whole passed a) is;
+              absurd (subst T (stopping ∙ ap₂ {A = Bool} {B = Bool} (λ u v. not u || v) (eq-eqb (numbers lim w x).code 0 pass) (le-ltb (length out) (size lim w x handed) enough)) t);
+          written = λ _ _.
+              front ∙ ap₂ {A = Counters} {B = Returned} (λ d u. fronted (given d u) out) (counts lim w c x asked.whole passed a) is
+              ∙ ap {A = List ℕ} (λ ns. fronted ns out) same;
           idle = λ g t. (a.kept g t).0;
           moved = λ g t _. subst (λ (d : Counters). Moved lim w w' d (outcome lim w x)) (counts lim w c x asked.whole passed a) (a.moved g t);
         }
+
+-- ---- what is handed back, by the counters after the call and the answer's numbers
+
+abbrev pub two_words : Counters → Returned → List ℕ
+two_words c p = c.length_is ∷ c.level_is ∷ []
+
+abbrev pub three_words : Counters → Returned → List ℕ
+three_words c p = c.length_is ∷ c.level_is ∷ p.value ∷ []
+
+abbrev pub four_words : Counters → Returned → List ℕ
+four_words c p = c.length_is ∷ c.level_is ∷ p.value ∷ p.gone ∷ []
+
+ended_value : (k n : ℕ) → (returned_by (ended k n)).value ≡ n
+ended_value zero n = refl
+ended_value (suc k) n = refl
+
+-- propagate's value is how many rows came on
+pub counted_words : (lim : Limits) (w : List ℕ)
+    → three_words (after (outcome lim w propagate)) (numbers lim w propagate) ≡ next_counted w (outcome lim w propagate)
+counted_words lim w =
+    subst (λ (o : Outcome). three_words (after o) (returned_by o.answer) ≡ next_counted w o) (sym ((replied lim w propagate).passes refl))
+    (ap {A = ℕ} (λ n. length (propagated (area_state lim w)).rows ∷ level_of w ∷ n ∷ [])
+    (ended_value (propagated (area_state lim w)).sentence (put_on (area_state lim w))))
 
 -- ---- codes are small
 

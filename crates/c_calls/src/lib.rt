@@ -96,7 +96,7 @@ pub fn take_back(
 // Propagate: what follows goes on the trail. The value is the sentence in conflict, 0 at still.
 pub fn propagate(area: &mut [u64], lim: Limits, length: u64, level: u64, next: &mut [u64]) -> u64
     requires { Fitting lim }
-    ensures { Changes lim area.old area.new (counters_with length level) propagate next_counted next.old next.new result }
+    ensures { Changes lim area.old area.new (counters_with length level) propagate (next_counted area.old) next.old next.new result }
 {
     if !whole::is_whole(area, lim, length, level) {
         return 9;

@@ -5,12 +5,16 @@ use mathlib.Core.Bool.{Bool, true, false, cond}
 use Prim.Native.Nat.{ℕ, ◌<◌, ◌≤◌}
 use native.Mathlib.Omega.{arith}
 use lib.Dec.{eqb, ltb}
-use borrow.Author.Tests.{eq-eqb, eqb-true, eqb-false, lt-ltb, le-ltb, ltb-true, ltb-false}
-use Rattle.c_interface.specs.Interface.{packed, one_number}
+use borrow.Author.Tests.{eq-eqb, ne_eqb, eqb-true, eqb-false, lt-ltb, le-ltb, ltb-true, ltb-false}
+use Rattle.c_interface.specs.Interface.{packed}
+use Rattle.c_interface.specs.Inner.Numbers.{one_number}
 
 module _ (code value needed room : ℕ) where
   abbrev choose : ℕ → Bool → Bool → ℕ
   choose last b few = cond b (cond few (packed 18 needed) (packed 0 last)) (packed code value)
+
+  pub refused_number : (last : ℕ) → ¬ (code ≡ 0) → packed code value ≡ one_number code value needed room last
+  refused_number last d = ap {A = Bool} (λ b. choose last b (ltb room needed)) (sym (ne_eqb code 0 d))
 
   pub short_number : (last : ℕ) → code ≡ 0 → room < needed → packed 18 needed ≡ one_number code value needed room last
   short_number last e h = rw (eq-eqb code 0 e, lt-ltb room needed h) refl

@@ -1,11 +1,12 @@
 -- What the functions for C promise, under given limits: the table's answer in one number, and the lent words that a call not refused writes.
 -- `w` and `w'` are the words of the area before and after, `out` and `out'` the lent words that hand back numbers.
-use Rattle.std.specs.Prelude.{◌≡◌, Bool, not, cond, ◌&&◌, ◌||◌, List, [], ◌∷◌, ◌++◌, ℕ, ◌+◌, ◌*◌, length, drop, ℤ, pos, T, eqb, leb, ltb}
+use Rattle.std.specs.Prelude.{◌≡◌, Bool, not, cond, ◌&&◌, ◌||◌, List, [], ◌∷◌, ◌++◌, ℕ, ◌+◌, ◌-◌, ◌*◌, length, drop, ℤ, pos, T, eqb, leb, ltb}
 use Rattle.types.specs.declared.Limits.{Limits}
-use Rattle.book.specs.Table.{Step, Report, a_step, a_report, bounds_of, listed, Answer, refused, done, still, conflict_in, searched, reported, Returned, returned_by, list_after, infinity, number, Outcome, reply}
+use Rattle.book.specs.Table.{Step, Report, a_step, a_report, bounds_of, listed, Answer, refused, done, still, conflict_in, searched, reported, list_of, returned_by, list_after, infinity, number, Outcome, reply}
 use Rattle.book.specs.Book.{Counters}
+use Rattle.area.specs.Layout.{rows_of}
 use Rattle.area.specs.Whole.{Whole}
-use Rattle.calls.specs.Calls.{area_state, unmoved, Moved}
+use Rattle.calls.specs.Calls.{area_state, is_refusal, unmoved, Moved}
 use Rattle.columns.specs.Columns.{Columns}
 use Rattle.columns.specs.Refusals.{load_answer}
 use Rattle.columns.specs.declared.Answer as c
@@ -16,54 +17,56 @@ use Rattle.load.specs.Load.{Loaded}
 abbrev pub packed : ℕ → ℕ → ℕ
 packed code value = value * 256 + code
 
--- a refusal's code and value, then 18 where the lent words are too few, with those that are needed; at code 0 the value that goes with it
-abbrev pub one_number : (code value needed room last : ℕ) → ℕ
-one_number code value needed room last = cond (eqb code 0) (cond (ltb room needed) (packed 18 needed) (packed 0 last)) (packed code value)
+-- the value that goes with code 0: the sentence in conflict, 0 where there is none; a list's length
+abbrev pub value_of : Answer → ℕ
+value_of (refused c n) = n
+value_of done = 0
+value_of (still n) = 0
+value_of (conflict_in k n) = k
+value_of (searched k n g) = k
+value_of (reported r) = length (list_of r)
 
--- the table's answer: at code 0 the value is the sentence in conflict, 0 where there is none
-abbrev pub told : Returned → (needed room : ℕ) → ℕ
-told p needed room = one_number p.code p.value needed room p.sentence
+-- the table's refusal, then 18 where the lent words are too few, with those that are needed
+abbrev pub told : Answer → (needed room : ℕ) → ℕ
+told (refused c n) needed room = packed c n
+told done needed room = cond (ltb room needed) (packed 18 needed) (packed 0 (value_of done))
+told (still n) needed room = cond (ltb room needed) (packed 18 needed) (packed 0 (value_of (still n)))
+told (conflict_in k n) needed room = cond (ltb room needed) (packed 18 needed) (packed 0 (value_of (conflict_in k n)))
+told (searched k n g) needed room = cond (ltb room needed) (packed 18 needed) (packed 0 (value_of (searched k n g)))
+told (reported r) needed room = cond (ltb room needed) (packed 18 needed) (packed 0 (value_of (reported r)))
 
-abbrev pub refuses : Returned → (needed room : ℕ) → Bool
-refuses p needed room = not (eqb p.code 0) || ltb room needed
+abbrev pub refuses : Answer → (needed room : ℕ) → Bool
+refuses a needed room = is_refusal a || ltb room needed
 
 -- lent words whose front is what is handed back
 module _ {A : Type 0} where
   abbrev pub fronted : List A → List A → List A
   fronted xs old = xs ++ drop (length xs) old
 
--- ---- calls that change the area
+-- ---- calls that change the area; `handed` is what goes into the lent words
 
--- the counters of an outcome
-abbrev pub after : Outcome → Counters
-after o = record { length_is = length o.rows; level_is = o.level }
-
--- `o` is the table's outcome, `given` what goes into the lent words
-pub record ChangesTo (o : Outcome) (given : List ℕ) (lim : Limits) (w w' : List ℕ) (c : Counters) (x : Step) (out out' : List ℕ) (r : ℕ) : Type 0 where
+pub record Changes (lim : Limits) (w w' : List ℕ) (c : Counters) (x : Step) (handed : Outcome → List ℕ) (out out' : List ℕ) (r : ℕ) : Type 0 where
   pub broken : ¬ (Whole lim w c) → (r ≡ packed 9 0) × (w' ≡ w) × (out' ≡ out)
-  pub answer : Whole lim w c → r ≡ told (returned_by o.answer) (length given) (length out)
-  pub kept : Whole lim w c → T (refuses (returned_by o.answer) (length given) (length out)) → (w' ≡ w) × (out' ≡ out)
-  pub written : Whole lim w c → T (not (refuses (returned_by o.answer) (length given) (length out))) → out' ≡ fronted given out
+  pub answer : Whole lim w c → r ≡ told (reply (area_state lim w) (a_step x)).answer (length (handed (reply (area_state lim w) (a_step x)))) (length out)
+  pub kept : Whole lim w c → T (refuses (reply (area_state lim w) (a_step x)).answer (length (handed (reply (area_state lim w) (a_step x)))) (length out)) → (w' ≡ w) × (out' ≡ out)
+  pub written : Whole lim w c → T (not (refuses (reply (area_state lim w) (a_step x)).answer (length (handed (reply (area_state lim w) (a_step x)))) (length out)))
+      → out' ≡ fronted (handed (reply (area_state lim w) (a_step x))) out
   -- taking back to the current level keeps the words too
   pub idle : Whole lim w c → T (unmoved (area_state lim w) x) → w' ≡ w
-  pub moved : Whole lim w c → T (not (unmoved (area_state lim w) x)) → T (not (ltb (length out) (length given))) → Moved lim w w' (after o) o
-
--- `handed` says by the counters after the call and the table's numbers what is handed back
-abbrev pub Changes : Limits → (w w' : List ℕ) → Counters → Step → (handed : Counters → Returned → List ℕ) → (out out' : List ℕ) → (r : ℕ) → Type 0
-Changes lim w w' c x handed out out' r =
-    let o = reply (area_state lim w) (a_step x) in ChangesTo o (handed (after o) (returned_by o.answer)) lim w w' c x out out' r
+  pub moved : Whole lim w c → T (not (unmoved (area_state lim w) x)) → T (not (ltb (length out) (length (handed (reply (area_state lim w) (a_step x))))))
+      → Moved lim w w' (record { length_is = length (reply (area_state lim w) (a_step x)).rows; level_is = (reply (area_state lim w) (a_step x)).level }) (reply (area_state lim w) (a_step x))
 
 -- the counters after the call
-abbrev pub next_counters : Counters → Returned → List ℕ
-next_counters c p = c.length_is ∷ c.level_is ∷ []
+abbrev pub next_counters : Outcome → List ℕ
+next_counters o = length o.rows ∷ o.level ∷ []
 
 -- and the number of literals put on
-abbrev pub next_counted : Counters → Returned → List ℕ
-next_counted c p = c.length_is ∷ c.level_is ∷ p.value ∷ []
+abbrev pub next_counted : List ℕ → Outcome → List ℕ
+next_counted w o = length o.rows ∷ o.level ∷ (length o.rows - length (rows_of w)) ∷ []
 
 -- of a search: the counters, the literals derived over all turns, and the literals of the list gone through
-abbrev pub next_searched : Counters → Returned → List ℕ
-next_searched c p = c.length_is ∷ c.level_is ∷ p.value ∷ p.gone ∷ []
+abbrev pub next_searched : Outcome → List ℕ
+next_searched o = length o.rows ∷ o.level ∷ (returned_by o.answer).value ∷ (returned_by o.answer).gone ∷ []
 
 -- ---- reports
 
@@ -79,9 +82,9 @@ bound_words (reported (listed ls)) = []
 
 pub record ReportsBounds (lim : Limits) (w : List ℕ) (c : Counters) (x : Report) (out out' : List ℤ) (r : ℕ) : Type 0 where
   pub broken : ¬ (Whole lim w c) → (r ≡ packed 9 0) × (out' ≡ out)
-  pub answer : Whole lim w c → r ≡ told (returned_by (reply (area_state lim w) (a_report x 0)).answer) 4 (length out)
-  pub kept : Whole lim w c → T (refuses (returned_by (reply (area_state lim w) (a_report x 0)).answer) 4 (length out)) → out' ≡ out
-  pub written : Whole lim w c → T (not (refuses (returned_by (reply (area_state lim w) (a_report x 0)).answer) 4 (length out))) → out' ≡ fronted (bound_words (reply (area_state lim w) (a_report x 0)).answer) out
+  pub answer : Whole lim w c → r ≡ told (reply (area_state lim w) (a_report x 0)).answer 4 (length out)
+  pub kept : Whole lim w c → T (refuses (reply (area_state lim w) (a_report x 0)).answer 4 (length out)) → out' ≡ out
+  pub written : Whole lim w c → T (not (refuses (reply (area_state lim w) (a_report x 0)).answer 4 (length out))) → out' ≡ fronted (bound_words (reply (area_state lim w) (a_report x 0)).answer) out
 
 -- the table itself decides 18 for a list
 pub record ReportsList (lim : Limits) (w : List ℕ) (c : Counters) (x : Report) (out out' : List ℤ) (r : ℕ) : Type 0 where
@@ -92,7 +95,7 @@ pub record ReportsList (lim : Limits) (w : List ℕ) (c : Counters) (x : Report)
 -- ---- load
 
 abbrev pub load_told : c.Answer → ℕ → ℕ
-load_told a room = one_number a.code a.sentence.0 2 room 0
+load_told a room = cond (eqb a.code 0) (cond (ltb room 2) (packed 18 2) (packed 0 0)) (packed a.code a.sentence.0)
 
 pub record LoadsFor (lim : Limits) (w w' : List ℕ) (n : ℕ) (columns : Columns) (out out' : List ℕ) (r : ℕ) : Type 0 where
   pub answer : r ≡ load_told (load_answer lim (length w) n columns) (length out)

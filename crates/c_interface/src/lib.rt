@@ -2,7 +2,8 @@
 #![tactic(auto)]
 
 ghost use Rattle.std.specs.Prelude.{◌≡◌, [], ◌∷◌, ◌<◌, ◌≤◌, length as list_length};
-ghost use Rattle.c_interface.specs.Interface.{packed, one_number, fronted};
+ghost use Rattle.c_interface.specs.Inner.Numbers.{one_number};
+ghost use Rattle.c_interface.specs.Interface.{packed, fronted};
 
 // The value in front of the code, which has the low byte.
 pub fn answer(code: u64, value: u64) -> u64

@@ -94,7 +94,7 @@ pub extern "C" fn dalelead_propagate(
     level: u64,
     next: &mut [u64],
 ) -> u64
-    ensures { Changes document area.old area.new (counters_with length level) propagate next_counted next.old next.new result }
+    ensures { Changes document area.old area.new (counters_with length level) propagate (next_counted area.old) next.old next.new result }
 {
     c_calls::propagate(area, Limits::document(), length, level, next)
 }

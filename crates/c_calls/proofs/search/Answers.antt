@@ -1,5 +1,5 @@
 -- 9, the refusal, too few lent words, or done (`Changing`).
-use Rattle.std.proofs.Common.{◌≡◌, arith}
+use Rattle.std.proofs.Common.{◌≡◌, refl, arith}
 use Rattle.book.specs.Table as table
 use Rattle.area.specs.Layout.{atoms_of}
 use Rattle.whole.specs.Parts.{counters_with}
@@ -8,7 +8,7 @@ use Rattle.give.specs.Inner.Refused.{refusal_code}
 use Rattle.search.specs.Search.{AllKnown}
 use Rattle.search.proofs.Answering.{all_known, acts_searched}
 use Rattle.c_interface.specs.Interface.{next_searched}
-use Rattle.c_calls.proofs.Changing.{Asked, changes_early, passed, changes_done, code_small}
+use Rattle.c_calls.proofs.Changing.{Asked, changes_early, passed, changes_done, four_words, code_small}
 use Rattle.c_calls.proofs.Sentences.{sentence_small}
 use Rattle.c_calls.proofs.search.Goals as goal
 
@@ -59,4 +59,4 @@ returns c =
     let known : AllKnown (atoms_of c.args.area.now) c.args.literals.now =
     all_known c.args.lim c.args.area.now c.args.literals.now (passed asked c.if-refused-ne0.false) in
     let acts = acts_searched _ _ _ _ u.whole known _ _ c.search_whole-told.ensures in
-    changes_done asked c.if-refused-ne0.false acts c.put_four.ensures c.answer.ensures
+    changes_done asked c.if-refused-ne0.false four_words refl acts c.put_four.ensures c.answer.ensures
