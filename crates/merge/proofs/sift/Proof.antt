@@ -14,21 +14,9 @@ invariant-loop-k part₀ count m₀ k₀ part m k = (m ≤ k) × (k ≤ count) �
 abbrev decreases-loop-k : tie.decreases-loop-k
 decreases-loop-k part₀ count m₀ k₀ part m k = count - k
 
-slice_write_part_2 : tie.Need-bounds-part-m-then-x-ne-HALF invariant-loop-k decreases-loop-k
-slice_write_part_2 c = simp length-set (omega (arith, c.before.before.before.before.loop-k.invariant.0, c.before.before.before.before.loop-k.invariant.2))
-
-loop_again : tie.Need-loop-k-preserved-then-x-ne-HALF invariant-loop-k decreases-loop-k
-loop_again c = let s = c.before.before.before.before in (
-  omega arith,
-  omega arith,
-  simp length-set s.loop-k.invariant.2,
-  sift_keep s.loop-k.invariant.3 (omega (arith, s.before.requires.0)) s.loop-k.invariant.2
-      c.if-x-ne-HALF.true,
-)
-
 loop_again_2 : tie.Need-loop-k-preserved invariant-loop-k decreases-loop-k
 loop_again_2 c = let s = c.before.before.before.before in
-    (omega arith, omega arith, s.loop-k.invariant.2, sift_drop s.loop-k.invariant.3 (omega (arith, s.before.requires.0)) c.if-x-ne-HALF.false)
+    (omega arith, omega arith, s.loop-k.invariant.2, sift_drop s.loop-k.invariant.3 (omega (arith, s.before.requires.0)) (omega arith))
 
 returns : tie.Need-returns invariant-loop-k decreases-loop-k
 returns c = let e : c.before.loop-k.k ≡ c.before.before.args.count = omega arith in rw e at c.before.loop-k.invariant.3.sifted
@@ -37,5 +25,11 @@ pub sift_spec : {M : Type 1} → statement M
 sift_spec = tie.close (tie.spec
     invariant-loop-k decreases-loop-k (λ c. (omega arith, omega arith, refl, sift_none _)) (λ c. search rules) (λ c. search rules) (λ c. search rules)
     (λ c. search rules) (λ c. search rules) (λ c. search rules) (λ c. search rules) (λ c. search rules) (λ c. search rules) (λ c. search rules)
-    (λ c. search rules) (λ c. search rules) (λ c. search rules) (λ c. search rules) slice_write_part_2 (λ c. search rules) (λ c. search rules)
-    loop_again (λ c. search rules) loop_again_2 (λ c. c.before.loop-k.invariant.2) returns)
+    (λ c. search rules) (λ c. search rules) (λ c. search rules) (λ c. search rules)
+    (λ c. simp length-set (omega (arith, c.loop-k.invariant.0, c.loop-k.invariant.2))) (λ c. search rules) (λ c. search rules)
+    (λ c. let s = c.before.before.before.before in (
+      omega arith,
+      omega arith,
+      simp length-set s.loop-k.invariant.2,
+      sift_keep s.loop-k.invariant.3 (omega (arith, s.before.requires.0)) s.loop-k.invariant.2 (λ e. omega (arith, e)),
+    )) (λ c. search rules) loop_again_2 (λ c. c.before.loop-k.invariant.2) returns)

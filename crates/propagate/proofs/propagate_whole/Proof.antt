@@ -26,12 +26,12 @@ propagate_whole_spec = tie.close (tie.spec
     (λ c. search rules)
     (λ c. (
       (λ lim u. acts_still _ _ _ _ _ _ _ u.whole (c.run-end.ensures lim
-          (searchable c.before.before.before.before.before.before u)) c.if-end-eq0.true),
+          (searchable c.before.before.before.before.before.before u)) (omega arith)),
       tt,
     ))
     (λ c. search rules)
     (λ c. (
       (λ lim u. acts_conflict _ _ _ _ _ _ _ u.whole
-          (c.run-end.ensures lim (searchable c.before.before.before.before.before.before u)) c.if-end-eq0.false),
-      c.if-end-eq0.false,
+          (c.run-end.ensures lim (searchable c.before.before.before.before.before.before u)) (λ e. omega (arith, e))),
+      (λ e. omega (arith, e)),
     )))

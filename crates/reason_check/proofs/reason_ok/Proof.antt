@@ -12,8 +12,8 @@ reason_ok_spec = tie.close (tie.spec
     (λ c. rw c.before.place_at-place.ensures (given_told _ _ _ _ (omega arith) (told_equal _ 0))) (λ c. told_no (λ h. omega (arith, h.few)))
     (λ c. search rules) (λ c. search rules) (λ c. search rules) (λ c. search rules)
     (λ c κs. (
-      reason_inside _ _ _ _ _ _ c.before.before.before.before.before.before.requires.0 c.before.if-reason-eq0.false
-          c.if-reason-sentences.false,
+      reason_inside _ _ _ _ _ _ c.before.before.before.before.before.before.requires.0 (λ e. omega (arith, e))
+          (omega arith),
       omega (arith, c.before.before.before.before.before.before.requires.0.literals _ c.before.before.before.before.before.before.requires.1),
     ))
     (λ c. derived_told _ _ _ _ _ _ _ c.before.before.before.before.row_reason-reason.ensures c.before.before.before.place_at-place.ensures

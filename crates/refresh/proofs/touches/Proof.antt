@@ -18,7 +18,7 @@ decreases-loop-i area n count base touched head start merged i₀ i = merged - i
 
 pub touches_spec : {M : Type 1} → statement M
 touches_spec = tie.close (tie.spec
-    invariant-loop-i decreases-loop-i (λ c κs. search rules) (λ c. search rules) (λ c. told_no (λ u. c.if-touched-head-ne0.true (rw c.before.before.head_at-head.ensures u.0)))
+    invariant-loop-i decreases-loop-i (λ c κs. search rules) (λ c. search rules) (λ c. told_no (λ u. let e : word c.args.touched.now c.head_at-head.result ≡ 0 = rw c.head_at-head.ensures u.0 in omega (arith, e)))
     (λ c κs. search rules) (λ c κs. search rules) (λ c. search rules) (λ c κs. search rules)
     (λ c. let s = c.before.before.before.before in
     let p = s.before.before.before.before.before.before.before.requires in
@@ -27,5 +27,5 @@ touches_spec = tie.close (tie.spec
     (λ c. (omega arith, below_more _ _ c.before.before.before.before.loop-i.invariant.1 (rw c.before.before.literal_in.ensures at c.if-touched-a-ne0.false)))
     (λ c. let s = c.before.before in
     let p = s.before.before.before.before.before.before.before.requires in
-    told_yes (all_untouched p s.before.entry_at-start.ensures s.merged_at-merged.ensures s.before.before.before.before.head_at-head.ensures s.before.before.if-touched-head-ne0.false
+    told_yes (all_untouched p s.before.entry_at-start.ensures s.merged_at-merged.ensures s.before.before.before.before.head_at-head.ensures (let e : word c.args.touched.now c.head_at-head.result ≡ 0 = omega arith in e)
     (λ j l. c.before.loop-i.invariant.1 j (omega arith)))))

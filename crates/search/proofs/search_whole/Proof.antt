@@ -89,17 +89,17 @@ try_literal_requires c κs = let s = c in
     })
 
 -- at the highest level
-highest : (c : tie.Then-tried-ne0 invariant-loop-count decreases-loop-count) → let s = c in
+highest : (c : tie.After-try_literal-tried invariant-loop-count decreases-loop-count) → (c.try_literal-tried.result.code ≡ 0 → ⊥) → let s = c in
     let t = c.try_literal-tried in
     Ends s.args.lim s.args.area.now t.new.area s.args.literals.now
     (unopposed_with 0 (c.loop-count.total
     + c.in-Still.count)
     c.next_open-j.result t.result.counters)
-highest c = let t = c.try_literal-tried in
+highest c d = let t = c.try_literal-tried in
     ends_level c.args.lim
-    (stopped c.before.before.before.before.before.before.before.before.before.before)
-    (next c.before.before.before.before.before.before.before.before.before) t.new.area t.result.counters
-    t.result.code (tried_here c.before.before.before.before.before) (inside c.before.before.before.before.before.before.before.before) c.if-tried-ne0.true
+    (stopped c.before.before.before.before.before)
+    (next c.before.before.before.before) t.new.area t.result.counters
+    t.result.code (tried_here c) (inside c.before.before.before) d
 
 loop_again : tie.Need-loop-count-preserved invariant-loop-count decreases-loop-count
 loop_again c = let s = c in
@@ -107,7 +107,7 @@ loop_again c = let s = c in
     let on = inside c.before.before.before.before.before.before.before.before in
     let g = reached_given s.args.lim (stopped c.before.before.before.before.before.before.before.before.before.before)
     (next c.before.before.before.before.before.before.before.before.before) t.new.area t.result.counters t.result.code
-    (tried_here c.before.before.before.before.before) on c.if-tried-ne0.false in
+    (tried_here c.before.before.before.before.before) on (omega arith) in
     let j = c.next_open-j.result in
     let e : suc j ≡ j + 1 = omega arith in
     let total = c.loop-count.total
@@ -154,10 +154,10 @@ search_whole_spec = tie.close (tie.spec
     subst (λ (r : Searched). Ends s.args.lim s.args.area.now c.propagate_whole-answer.new.area
     s.args.literals.now r) (sym c.unopposed.ensures)
     (ends_list s.args.lim (stopped c.before.before.before) (next c.before.before) (omega (arith, c.if-j-literals.true))))
-    mul_try_literal (λ c. inside c.before) try_literal_requires (λ c κs. search rules) (λ c. (highest c.before).moved.size)
+    mul_try_literal (λ c. inside c.before) try_literal_requires (λ c κs. search rules) (λ c. (highest c.before.before.before.before.before.before (λ e. omega (arith, e))).moved.size)
     (λ c. let s = c in
     subst (λ (r : Searched). Ends s.args.lim s.args.area.now c.try_literal-tried.new.area s.args.literals.now r)
-    (sym c.unopposed-then-tried-ne0.ensures) (highest c.before))
+    (sym (search rules)) (highest c.before.before.before.before.before.before (λ e. omega (arith, e))))
     (λ c. let b : Fits w64 (c.next_open-j.result * 8) =
     mul_try_literal c.before.before.before.before.before.before.before in omega (arith, b.fits))
     (λ c. omega (arith, inside c.before.before.before.before.before.before.before.before, (next c.before.before.before.before.before.before.before.before.before).later))

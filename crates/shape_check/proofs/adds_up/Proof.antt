@@ -17,18 +17,6 @@ invariant-loop-i counts total left₀ i₀ left i = (i ≤ length counts) × (le
 abbrev decreases-loop-i : tie.decreases-loop-i
 decreases-loop-i counts total left₀ i₀ left i = length counts - i
 
-returns : tie.Need-returns-then-count-left invariant-loop-i decreases-loop-i
-returns c = let cs = c.before.before.before.before.args.counts.now in
-    sym (ne_eqb (sum_first cs (length cs)) c.before.before.before.before.args.total
-    (λ e. omega (
-      arith,
-      e,
-      c.before.before.before.loop-i.invariant.1,
-      sum_step cs c.before.before.before.loop-i.i,
-      sum_upto cs
-          (c.before.before.before.loop-i.i + 1) (length cs) (omega arith),
-    )))
-
 loop_again : tie.Need-loop-i-preserved invariant-loop-i decreases-loop-i
 loop_again c = (omega arith, omega (arith, c.before.before.before.loop-i.invariant.1, sum_step c.before.before.before.before.args.counts.now c.before.before.before.loop-i.i))
 
@@ -39,5 +27,15 @@ returns_2 c = let cs = c.before.before.args.counts.now in
 
 pub adds_up_spec : {M : Type 1} → statement M
 adds_up_spec = tie.close (tie.spec
-    invariant-loop-i decreases-loop-i (λ c. (omega arith, omega (arith, sum_none c.args.counts.now))) (λ c. search rules) (λ c. search rules) returns
+    invariant-loop-i decreases-loop-i (λ c. (omega arith, omega (arith, sum_none c.args.counts.now))) (λ c. search rules) (λ c. search rules)
+    (λ c. let cs = c.args.counts.now in
+    sym (ne_eqb (sum_first cs (length cs)) c.args.total
+    (λ e. omega (
+      arith,
+      e,
+      c.loop-i.invariant.1,
+      sum_step cs c.loop-i.i,
+      sum_upto cs
+          (c.loop-i.i + 1) (length cs) (omega arith),
+    ))))
     (λ c. search rules) (λ c. search rules) loop_again returns_2)
