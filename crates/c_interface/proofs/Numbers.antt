@@ -1,6 +1,6 @@
 -- What the one number of a refusal or of too few lent words tells: where it is not 0 it stands for the whole answer; where it is 0 there
 -- is neither.
-use mathlib.Core.Path.{◌≡◌, refl, sym}
+use mathlib.Core.Path.{◌≡◌, refl, sym, ap}
 use mathlib.Core.Bool.{Bool, true, false, cond}
 use Prim.Native.Nat.{ℕ, ◌<◌, ◌≤◌}
 use native.Mathlib.Omega.{arith}

@@ -10,7 +10,6 @@ use lib.IntN.{ℤ, pos}
 use lib.Dec.{T, eqb, ltb}
 use borrow.Author.Tests.{eq-eqb, ne_eqb, lt-ltb, le-ltb}
 use Rattle.types.specs.declared.Limits.{Limits}
-use Rattle.decide.proofs.Below.{or_right}
 use Rattle.book.specs.Table.{bounds, a_report, Returned, returned_by, State, Outcome, reply}
 use Rattle.book.specs.Book.{Counters}
 use Rattle.area.specs.Whole.{Whole}
@@ -75,7 +74,9 @@ module _ {lim : Limits} {w : List ℕ} {c : Counters} {k : ℕ} {found : Bounds}
         broken = λ b. absurd (whole_only b);
         answer = λ g. e ∙ short_number found.code 0 4 room 0 passed h ∙ telling g;
         kept = λ _ _. refl;
-        written = λ g n. absurd (subst (λ (b : Bool). T (not b)) (refusing g ∙ or_right (not (eqb found.code 0)) (ltb room 4) (lt-ltb room 4 h)) n);
+        written = λ g n.
+            absurd (subst (λ (b : Bool). T (not b))
+            (refusing g ∙ ap₂ {A = Bool} {B = Bool} (λ b d. not b || d) (eq-eqb found.code 0 passed) (lt-ltb room 4 h)) n);
       }
 
       pub bounds_done : {out' : List ℤ} → 4 ≤ room → out' ≡ fronted (paper_words (bounds_returned found)) out → ReportsBounds lim w c (bounds k) out out' 0

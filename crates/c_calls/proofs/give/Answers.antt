@@ -35,6 +35,6 @@ returns c =
     let code : c.give_refusal-code.result ≡ refusal_code c.args.lim c.args.area.now (give c.args.literal) =
     rw (to_z-of_z w64 c.args.literal c.ranges.literal) at (c.give_refusal-code.ensures c.args.lim _ u) in
     let asked : Asked c.args.lim c.args.area.now (counters_with c.args.length c.args.level) (give c.args.literal) next_counters c.args.next.now
-        c.give_refusal-code.result c.early-refused.result = record { whole = u.whole; code = code; number = c.early-refused.ensures } in
+    c.give_refusal-code.result c.early-refused.result = record { whole = u.whole; code = code; number = c.early-refused.ensures } in
     changes_done asked c.if-refused-ne0.false two_words refl
     (rw (to_z-of_z w64 c.args.literal c.ranges.literal) at (c.give_whole-done.ensures c.args.lim u)) c.put_two.ensures refl

@@ -30,5 +30,5 @@ returns c =
     record { fitting = c.requires; whole = c.is_whole.ensures.yes c.if-not-is_whole.false } in
     let code : c.take_back_refusal-code.result ≡ refusal_code c.args.lim c.args.area.now (take_back c.args.k) = c.take_back_refusal-code.ensures c.args.lim c.args.area.now u.whole.level_is in
     let asked : Asked c.args.lim c.args.area.now (counters_with c.args.length c.args.level) (take_back c.args.k) next_counters c.args.next.now
-        c.take_back_refusal-code.result c.early-refused.result = record { whole = u.whole; code = code; number = c.early-refused.ensures } in
+    c.take_back_refusal-code.result c.early-refused.result = record { whole = u.whole; code = code; number = c.early-refused.ensures } in
     changes_done asked c.if-refused-ne0.false two_words refl c.take_back_whole-done.ensures c.put_two.ensures refl
