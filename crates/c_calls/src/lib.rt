@@ -35,8 +35,8 @@ pub fn give(
         level: Level(level),
     };
     let done = give::give_whole(area, had, literal);
-    let after = done.counters;
-    c_interface::put_two(next, after.length, after.level.0);
+    let given = done.counters;
+    c_interface::put_two(next, given.length, given.level.0);
     0
 }
 
@@ -58,8 +58,8 @@ pub fn open(area: &mut [u64], lim: Limits, length: u64, level: u64, next: &mut [
         level: Level(level),
     };
     let done = levels::open_whole(area, lim, had);
-    let after = done.counters;
-    c_interface::put_two(next, after.length, after.level.0);
+    let opened = done.counters;
+    c_interface::put_two(next, opened.length, opened.level.0);
     0
 }
 
@@ -88,8 +88,8 @@ pub fn take_back(
         level: Level(level),
     };
     let done = levels::take_back_whole(area, lim, had, k);
-    let after = done.counters;
-    c_interface::put_two(next, after.length, after.level.0);
+    let left = done.counters;
+    c_interface::put_two(next, left.length, left.level.0);
     0
 }
 
