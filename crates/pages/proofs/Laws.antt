@@ -1,12 +1,10 @@
 -- Texts put behind one another.
-use mathlib.Core.Path.{◌≡◌, refl, sym, ap, ◌∙◌, subst}
+use mathlib.Core.Path.{◌≡◌, refl, sym, ◌∙◌, subst}
 use mathlib.Core.List.{List, [], ◌∷◌, ◌++◌, append_assoc, append-nil}
-use Prim.Native.Nat.{ℕ, ◌+◌, ◌≤◌, ◌<◌}
+use Prim.Native.Nat.{ℕ, ◌≤◌}
 use lib.IntN.{ℤ}
 use native.Mathlib.Omega.{arith}
-use native.Mathlib.Numerals.{add-one}
-use lib.ListN.{length, get_or, set, take, length-append, length-set}
-use lib.Seq.{paste, paste-zero, paste-suc, take-paste, take_all}
+use lib.ListN.{length, take}
 use Rattle.numbers.specs.Text.{bytes, decimal, signed_decimal}
 use Rattle.pages.specs.Page.{Holds, Writes}
 use Rattle.pages.specs.Lines.{named, number_line, pair_line}
@@ -43,50 +41,6 @@ starts page = record { place = omega arith; held = λ h. go page }
     go : (page : List ℕ) → take 0 page ≡ []
     go [] = refl
     go (x ∷ xs) = refl
-
--- once past the end, nothing is held and nothing is lost
-pub stays : {p : List ℕ} {a : ℕ} (xs : List ℕ) → length p < a → Writes p a p a xs
-stays {p} {a} xs l = record {
-  size = refl;
-  goes = λ t h. record { place = (let k = h.place in omega (arith, length-append t xs)); held = λ m. let b : ⊥ = omega arith in absurd b };
-}
-
--- ---- copying: the first i bytes stand at the place
-
-pub record Copied (text old : List ℕ) (at : ℕ) (new : List ℕ) (i : ℕ) : Type 0 where
-  pub few : i ≤ length text
-  pub length_same : length new ≡ length old
-  pub copied : new ≡ paste old at text i
-
-pub none_copied : (text old : List ℕ) (at : ℕ) → Copied text old at old 0
-none_copied text old at = record { few = omega arith; length_same = refl; copied = paste-zero old at text }
-
-pub one_copied : {text old new : List ℕ} {at i : ℕ} → at + length text ≤ length old → i < length text → Copied text old at new i →
-    Copied text old at (set new (at + i) (get_or text i 0)) (i + 1)
-one_copied {text} {old} {new} {at} {i} h p c =
-    record {
-      few = omega arith;
-      length_same = length-set new (at + i) (get_or text i 0) ∙ c.length_same;
-      copied = rw add-one (ap (λ (b : List ℕ). set b (at + i) (get_or text i 0)) c.copied ∙ paste-suc old at text i 0 (omega arith) p);
-    }
-
--- all of a text that has room
-pub all_put : {text old new : List ℕ} {at i : ℕ} → at + length text ≤ length old → i ≡ length text → Copied text old at new i → Writes old at new (at + i) text
-all_put {text} {old} {new} {at} {i} h e c = record {
-  size = c.length_same;
-  goes = λ t g. record {
-    place = (let k = g.place in omega (arith, length-append t text, c.length_same));
-    held = λ m. ap (take (at + i)) c.copied ∙ take-paste old at text i (omega arith) c.few
-        ∙ ap (λ l. l ++ take i text) (g.held (omega arith)) ∙ ap (λ l. t ++ l) (take_all i text (omega arith));
-  };
-}
-
--- a text that has no room: the page is full from then on
-pub full : {text old : List ℕ} {at : ℕ} → at ≤ length old → length old < at + length text → Writes old at old (length old + 1) text
-full {text} {old} {at} l h = record {
-  size = refl;
-  goes = λ t g. record { place = (let k = g.place in omega (arith, length-append t text)); held = λ m. let b : ⊥ = omega arith in absurd b };
-}
 
 -- nothing written
 pub nothing : (p : List ℕ) (a : ℕ) → Writes p a p a []

@@ -9,10 +9,10 @@ use mir.Syntax.{w64}
 use mir.Val.{to_z, of_z, SFits}
 use mir.ValLaws.{to_z-of_z}
 use lib.IntN.{ℤ, pos, negsuc, nat_abs}
+use Rattle.std.specs.Prelude.{int_lt}
 use lib.Dec.{leb}
-use borrow.Author.Tests.{lt-ltb, le-ltb, leb-true, leb-false}
+use borrow.Author.Tests.{lt-ltb, le-ltb, ltb-true, leb-true, leb-false}
 use Rattle.io.specs.Digits.{last_digits, hex_digit_ascii, IsDigitCount}
-use Rattle.signed.specs.Inner.Sign.{is_negative}
 use Rattle.pages.specs.Page.{Writes}
 use Rattle.pages.specs.Lines.{named}
 use Rattle.numbers.specs.Text.{decimal_within, decimal, signed_decimal}
@@ -48,18 +48,13 @@ pub number_written :
 number_written {old} {new} {text} {at} {r} {n} {k} h f e w =
     subst (Writes old at new r) (e ∙ fewest_digits 20 k n f.0 (few_digits n k h f.2 (leb k 20) refl) f.1 f.2) w
 
+-- a number below 0 is its sign and its size
 pub negative_written :
-    (z : ℤ) {m : ℕ} {old next new : List ℕ} {at behind r : ℕ} → is_negative z ≡ true → m ≡ nat_abs z →
+    (z : ℤ) {m : ℕ} {old next new : List ℕ} {at behind r : ℕ} → int_lt z (pos 0) ≡ true → m ≡ nat_abs z →
     Writes old at next behind (45 ∷ []) → Writes next behind new r (decimal m) → Writes old at new r (signed_decimal z)
-negative_written (pos n) s e p q = let c : ◌≡◌ {A = ℕ} 0 1 = cc in let b : ⊥ = omega arith in absurd b
-negative_written (negsuc n) {m} {old} {next} {new} {at} {behind} {r} s e p q =
+negative_written (pos n) l e p q = let b : ⊥ = omega (arith, ltb-true n 0 l) in absurd b
+negative_written (negsuc n) {m} {old} {next} {new} {at} {behind} {r} l e p q =
     then p (subst (λ (k : ℕ). Writes next behind new r (decimal k)) e q)
-
-pub natural_written :
-    (z : ℤ) {m : ℕ} {old new : List ℕ} {at r : ℕ} → is_negative z ≡ false → m ≡ nat_abs z → Writes old at new r (decimal m) →
-    Writes old at new r (signed_decimal z)
-natural_written (pos n) {m} {old} {new} {at} {r} s e q = subst (λ (k : ℕ). Writes old at new r (decimal k)) e q
-natural_written (negsuc n) s e q = let c : ◌≡◌ {A = ℕ} 0 1 = cc in let b : ⊥ = omega arith in absurd b
 
 -- a signed number reaches its callee as a word, and is the same number there
 

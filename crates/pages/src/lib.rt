@@ -14,12 +14,8 @@ pub fn put_bytes(page: &mut [u8], at: usize, text: &[u8]) -> usize
     if text.len() > page.len() - at {
         return page.len() + 1;
     }
-    let mut i: usize = 0;
-    while i < text.len() {
-        page[at + i] = text[i];
-        i += 1;
-    }
-    at + i
+    page[at..at + text.len()].copy_from_slice(text);
+    at + text.len()
 }
 
 pub fn put_number(page: &mut [u8], at: usize, n: u64) -> usize
@@ -33,11 +29,11 @@ pub fn put_number(page: &mut [u8], at: usize, n: u64) -> usize
 pub fn put_signed(page: &mut [u8], at: usize, z: i64) -> usize
     ensures { Writes page.old at page.new result (signed_decimal z) }
 {
-    if signed::negative(z) {
+    if z < 0 {
         let behind = put_bytes(page, at, b"-");
-        return put_number(page, behind, signed::size(z));
+        return put_number(page, behind, z.unsigned_abs());
     }
-    put_number(page, at, signed::size(z))
+    put_number(page, at, z.unsigned_abs())
 }
 
 // ---- parts of lines
