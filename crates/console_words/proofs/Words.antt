@@ -1,91 +1,116 @@
--- Along a line: what a blank and a byte of a word make of its words; and along two words that are compared.
-use mathlib.Core.Bool.{Bool, true, false, ◌&&◌}
-use mathlib.Core.List.{List, [], ◌∷◌, ◌++◌}
-use mathlib.Core.Path.{◌≡◌, refl, ap}
-use Prim.Native.Nat.{ℕ, suc, ◌+◌, ◌-◌, ◌<◌, ◌≤◌}
-use native.Mathlib.Omega.{arith}
-use lib.Dec.{eqb}
-use lib.ListN.{length, take, drop, get_or, length-take, length-drop, drop_of_length-le}
-use lib.Seq.{take-suc, take_all, drop-cons, get_or-drop}
-use borrow.Author.Tests.{eq-eqb, ne_eqb}
-use Rattle.console_words.specs.Words.{Word, blank, run, words_from, words, same}
+-- Along a line: blanks are passed over, and a word goes up to the next blank.
+use Rattle.std.proofs.Common.{◌≡◌, refl, sym, ◌∙◌, ℕ, suc, ◌-◌, ◌<◌, ◌≤◌, arith, Bool, true, false, not, List, [], ◌∷◌, ◌++◌, append_assoc, length, take, drop, get_or, one-add, drop-cons, length-take, length-drop, length-append, append-nil}
+use Rattle.std.proofs.Math.Seq.{take_all}
+use Rattle.std.proofs.Math.ListN.{drop_of_length-le}
+use Rattle.std.proofs.lemmas.List.Sums.{prefix_len-le-length, passes_at_first}
+use Rattle.std.proofs.lemmas.Option.{cond_some, none-some}
+use Rattle.std.proofs.lemmas.Bool.{ltb-true, ltb-false}
+use Rattle.std.specs.Prelude.{Option, Some, None, nat_lt, position, unwrap_or}
+use Rattle.std.specs.List.{position_or_len}
+use Rattle.console_words.specs.Words.{Word, blank, run, words_from, words}
+use Rattle.console_words.specs.Inner.Split.{SplitsWord}
 
--- a blank is passed over
-pub blank_passed : (line : List ℕ) (i : ℕ) → i < length line → blank (get_or line i 0) ≡ true → words (drop i line) ≡ words (drop (suc i) line)
-unfolding words_from
-blank_passed line i h e = rw (drop-cons line i 0 h, e)
+abbrev filled : ℕ → Bool
+filled b = not (blank b)
+
+-- ---- blanks
+
+module _ (b : ℕ) (line : List ℕ) where
+  on_blank : (t : Bool) → blank b ≡ t → words line ≡ words (drop (position_or_len filled line) line) →
+      words (b ∷ line) ≡ words (drop (position_or_len filled (b ∷ line)) (b ∷ line))
+  unfolding words_from
+  on_blank true e h = rw (e, one-add) h
+  on_blank false e h = rw (e, e)
+
+blanks_passed : (line : List ℕ) → words line ≡ words (drop (position_or_len filled line) line)
+blanks_passed [] = refl
+blanks_passed (b ∷ line) = on_blank b line (blank b) refl (blanks_passed line)
+
+-- ---- the word behind them
 
 run_is : (w : Word) (ws : List Word) → 0 < length w → run w ws ≡ w ∷ ws
 run_is [] ws h = let b : ⊥ = omega arith in absurd b
 run_is (b ∷ w) ws h = refl
 
-one_more : (line : List ℕ) (from i : ℕ) → from ≤ i → i < length line →
-    take (suc i - from) (drop from line) ≡ take (i - from) (drop from line) ++ (get_or line i 0 ∷ [])
-one_more line from i p h =
-    let size : suc i - from ≡ suc (i - from) = omega arith in
-    let place : from + (i - from) ≡ i = omega arith in
-    rw (size, take-suc (drop from line) (i - from) 0 (simp length-drop (omega arith)), get_or-drop from line (i - from) 0, place)
-
--- along the word that begins at `from`: the bytes up to i are one run
-module _ (line : List ℕ) (from i : ℕ) (p : from < i) where
-  -- a byte of the word goes on with the run
-  pub run_grows : i < length line → blank (get_or line i 0) ≡ false →
-      words_from (take (i - from) (drop from line)) (drop i line) ≡ words_from (take (suc i - from) (drop from line)) (drop (suc i) line)
+module _ (b : ℕ) (w : Word) (line : List ℕ) (some : 0 < length w) where
+  on_run : (t : Bool) → blank b ≡ t →
+      words_from (w ++ (b ∷ [])) line ≡ ((w ++ (b ∷ [])) ++ take (position_or_len blank line) line) ∷ words (drop (position_or_len blank line) line) →
+      words_from w (b ∷ line) ≡ (w ++ take (position_or_len blank (b ∷ line)) (b ∷ line)) ∷ words (drop (position_or_len blank (b ∷ line)) (b ∷ line))
   unfolding words_from
-  run_grows h e = rw (drop-cons line i 0 h, e, one_more line from i (omega arith) h)
+  on_run true e h = rw (e, e, append-nil) (run_is w _ some)
+  on_run false e h = rw (e, one-add) (rw append_assoc at h)
 
-  some_run : i ≤ length line → (ws : List Word) → run (take (i - from) (drop from line)) ws ≡ take (i - from) (drop from line) ∷ ws
-  some_run h ws = run_is (take (i - from) (drop from line)) ws (simp (length-take, length-drop) (omega arith))
-
-  -- a blank ends it
-  pub run_ends : i < length line → blank (get_or line i 0) ≡ true →
-      words_from (take (i - from) (drop from line)) (drop i line) ≡ take (i - from) (drop from line) ∷ words (drop i line)
-  unfolding words_from
-  run_ends h e = rw (drop-cons line i 0 h, e) (some_run (omega arith) (words_from [] (drop (suc i) line)))
-
-  -- and so does the line's end
-  pub line_ends : i ≡ length line →
-      words_from (take (i - from) (drop from line)) (drop i line) ≡ take (i - from) (drop from line) ∷ words (drop i line)
-  unfolding words_from
-  line_ends h = rw (drop_of_length-le line {i = i} (omega arith)) (some_run (omega arith) [])
-
--- the first byte of a word is a run
-pub run_begins : (line : List ℕ) (from : ℕ) → from < length line → blank (get_or line from 0) ≡ false →
-    words (drop from line) ≡ words_from (take (suc from - from) (drop from line)) (drop (suc from) line)
+run_grows : (w : Word) (line : List ℕ) → 0 < length w →
+    words_from w line ≡ (w ++ take (position_or_len blank line) line) ∷ words (drop (position_or_len blank line) line)
 unfolding words_from
-run_begins line from h e = let one : suc from - from ≡ 1 = omega arith in rw (drop-cons line from 0 h, e, one)
+run_grows w [] some = rw append-nil (run_is w [] some)
+run_grows w (b ∷ line) some = on_run b w line some (blank b) refl (run_grows (w ++ (b ∷ [])) line (omega (arith, length-append w (b ∷ []))))
 
--- no words stand behind a line's end
-pub words_behind : (line : List ℕ) (i : ℕ) → length line ≤ i → words (drop i line) ≡ []
+-- a line that begins with a word
+word_first : (b : ℕ) (line : List ℕ) → blank b ≡ false →
+    words (b ∷ line) ≡ take (position_or_len blank (b ∷ line)) (b ∷ line) ∷ words (drop (position_or_len blank (b ∷ line)) (b ∷ line))
 unfolding words_from
-words_behind line i h = rw (drop_of_length-le line h)
+word_first b line e = rw (e, one-add) (run_grows (b ∷ []) line (omega arith))
 
--- a lent part that goes to the end
-pub rest_is : (line : List ℕ) (i : ℕ) → take (length line - i) (drop i line) ≡ drop i line
-rest_is line i = take_all (length line - i) (drop i line) (simp length-drop (omega arith))
+module _ (b : ℕ) (bs : List ℕ) {xs : List ℕ} (is : xs ≡ b ∷ bs) (e : blank b ≡ false) where
+  word_at : words xs ≡ take (position_or_len blank xs) xs ∷ words (drop (position_or_len blank xs) xs)
+  word_at = rw is (word_first b bs e)
 
--- ---- two words
+  word_some : 0 < length (take (position_or_len blank xs) xs)
+  word_some = rw (is, e, one-add) (omega arith)
 
-neither : (b : Bool) → (b && false) ≡ false
-neither true = refl
-neither false = refl
+not_true : (t : Bool) → not t ≡ true → t ≡ false
+not_true true e = sym e
+not_true false e = refl
 
-pub same_front : (xs ys : Word) (i : ℕ) → i < length xs → i < length ys → get_or xs i 0 ≡ get_or ys i 0 →
-    same (drop i xs) (drop i ys) ≡ same (drop (suc i) xs) (drop (suc i) ys)
-unfolding same
-same_front xs ys i hx hy e = rw (drop-cons xs i 0 hx, drop-cons ys i 0 hy, eq-eqb _ _ e)
+-- ---- what the two searches answer
 
-pub differ : (xs ys : Word) (i : ℕ) → i < length xs → i < length ys → (get_or xs i 0 ≡ get_or ys i 0 → ⊥) → same (drop i xs) (drop i ys) ≡ false
-unfolding same
-differ xs ys i hx hy e = rw (drop-cons xs i 0 hx, drop-cons ys i 0 hy, ne_eqb _ _ e)
+module _ (p : ℕ → Bool) (xs : List ℕ) where
+  end_by : (t : Bool) → nat_lt (position_or_len p xs) (length xs) ≡ t → unwrap_or (position p xs) (length xs) ≡ position_or_len p xs
+  end_by true e = rw e
+  end_by false e = rw e (omega (arith, ltb-false _ _ e, prefix_len-le-length (λ x. not (p x)) xs))
 
-pub same_ends : (xs ys : Word) (i : ℕ) → length xs ≤ i → length ys ≤ i → same (drop i xs) (drop i ys) ≡ true
-unfolding same
-same_ends xs ys i hx hy = rw (drop_of_length-le xs hx, drop_of_length-le ys hy)
+  end_is : unwrap_or (position p xs) (length xs) ≡ position_or_len p xs
+  end_is = end_by (nat_lt (position_or_len p xs) (length xs)) refl
 
-pub same_lengths : (xs ys : Word) → (length xs ≡ length ys → ⊥) → same xs ys ≡ false
-unfolding same
-same_lengths [] [] h = absurd (h refl)
-same_lengths [] (y ∷ ys) h = refl
-same_lengths (x ∷ xs) [] h = refl
-same_lengths (x ∷ xs) (y ∷ ys) h = rw (same_lengths xs ys (λ e. h (ap suc e))) (neither (eqb x y))
+  pub end_fits : unwrap_or (position p xs) (length xs) ≤ length xs
+  end_fits = omega (arith, end_is, prefix_len-le-length (λ x. not (p x)) xs)
+
+  none_by : (t : Bool) → nat_lt (position_or_len p xs) (length xs) ≡ t → None ≡ position p xs → length xs ≤ position_or_len p xs
+  none_by true e h = let b : ⊥ = none-some (position_or_len p xs) (h ∙ rw e) in absurd b
+  none_by false e h = ltb-false _ _ e
+
+  none_is : None ≡ position p xs → length xs ≤ position_or_len p xs
+  none_is = none_by (nat_lt (position_or_len p xs) (length xs)) refl
+
+pub no_word : (line : List ℕ) → None ≡ position filled line → words line ≡ []
+unfolding words_from
+no_word line e = blanks_passed line ∙ rw (drop_of_length-le line (none_is filled line e))
+
+module _ (line : List ℕ) {i : ℕ} (e : Some i ≡ position filled line) where
+  inside : (i < length line) × (position_or_len filled line ≡ i)
+  inside = let h = cond_some _ _ _ (sym e) in (let k = h.1 in omega (arith, ltb-true _ _ h.0), h.1)
+
+  begins : drop i line ≡ get_or line i 0 ∷ drop (suc i) line
+  begins = drop-cons line i 0 inside.0
+
+  no_blank : blank (get_or line i 0) ≡ false
+  no_blank = not_true _ (rw inside.1 at (passes_at_first filled line 0 (omega (arith, inside.0, inside.1))))
+
+  -- the word that begins there, and what stands behind it
+  split_there : SplitsWord line (take (position_or_len blank (drop i line)) (drop i line)) (drop (position_or_len blank (drop i line)) (drop i line))
+  split_there = record {
+    words_are = blanks_passed line ∙ rw inside.1 (word_at _ _ begins no_blank);
+    some = word_some _ _ begins no_blank;
+    fits = simp (length-take, length-drop) (omega arith);
+  }
+
+  behind : take (length line - i) (drop i line) ≡ drop i line
+  behind = take_all (length line - i) (drop i line) (simp length-drop (omega arith))
+
+  pub split_is : {m : Option ℕ} {j : ℕ} {word rest : List ℕ} → m ≡ position blank (take (length line - i) (drop i line)) →
+      j ≡ unwrap_or m (length (take (length line - i) (drop i line))) → word ≡ take j (take (length line - i) (drop i line)) →
+      rest ≡ drop j (take (length line - i) (drop i line)) → SplitsWord line word rest
+  split_is {m} {j} p q w r =
+      let e : j ≡ position_or_len blank (drop i line) = q ∙ rw (p, behind) (end_is blank (drop i line)) in
+      rw (w, r, behind, e) split_there

@@ -1,9 +1,5 @@
 -- The numbers that words are: digits, up to 2^64 - 1; with an optional sign, from -2^63 to 2^63 - 1.
-use Rattle.std.specs.Prelude.{Bool, true, false, cond, ◌&&◌, [], ◌∷◌, ℕ, ◌+◌, ◌*◌, ◌-◌, eqb, leb, pos, neg_ℤ}
-use Rattle.console_words.specs.declared.Signed.{Signed}
-use Rattle.console_words.specs.declared.Signed.TheVariants.{Integer, NotInteger}
-use Rattle.console_words.specs.declared.Unsigned.{Unsigned}
-use Rattle.console_words.specs.declared.Unsigned.TheVariants.{Natural, NotNatural}
+use Rattle.std.specs.Prelude.{Bool, true, false, cond, ◌&&◌, [], ◌∷◌, ℕ, ◌+◌, ◌*◌, ◌-◌, eqb, leb, ℤ, pos, neg_ℤ, Option, Some, None, option_and_then}
 use Rattle.console_words.specs.Words.{Word}
 
 abbrev pub digit : ℕ → Bool
@@ -22,18 +18,17 @@ abbrev pub any : Word → Bool
 any [] = false
 any (b ∷ bs) = true
 
-unfoldable pub unsigned_of : Word → Unsigned
-unsigned_of w = cond (any w && all_digits w && leb (value_from 0 w) 18446744073709551615) (Natural (value_from 0 w)) NotNatural
+unfoldable pub unsigned_of : Word → Option ℕ
+unsigned_of w = cond (any w && all_digits w && leb (value_from 0 w) 18446744073709551615) (Some (value_from 0 w)) None
 
-abbrev pub plus : Unsigned → Signed
-plus (Natural n) = cond (leb n 9223372036854775807) (Integer (pos n)) NotInteger
-plus NotNatural = NotInteger
+abbrev pub plus : ℕ → Option ℤ
+plus n = cond (leb n 9223372036854775807) (Some (pos n)) None
 
-abbrev pub minus : Unsigned → Signed
-minus (Natural n) = cond (leb n 9223372036854775808) (Integer (neg_ℤ (pos n))) NotInteger
-minus NotNatural = NotInteger
+abbrev pub minus : ℕ → Option ℤ
+minus n = cond (leb n 9223372036854775808) (Some (neg_ℤ (pos n))) None
 
 -- `+` is 43, `-` is 45
-unfoldable pub signed_of : Word → Signed
-signed_of [] = NotInteger
-signed_of (b ∷ bs) = cond (eqb b 43) (plus (unsigned_of bs)) (cond (eqb b 45) (minus (unsigned_of bs)) (plus (unsigned_of (b ∷ bs))))
+unfoldable pub signed_of : Word → Option ℤ
+signed_of [] = None
+signed_of (b ∷ bs) =
+    cond (eqb b 43) (option_and_then plus (unsigned_of bs)) (cond (eqb b 45) (option_and_then minus (unsigned_of bs)) (option_and_then plus (unsigned_of (b ∷ bs))))

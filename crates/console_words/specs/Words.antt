@@ -1,5 +1,5 @@
 -- The words of a line: its runs of bytes that are not space, tab or CR.
-use Rattle.std.specs.Prelude.{Bool, true, false, cond, ◌&&◌, ◌||◌, List, [], ◌∷◌, ◌++◌, ℕ, eqb}
+use Rattle.std.specs.Prelude.{Bool, cond, ◌||◌, List, [], ◌∷◌, ◌++◌, ℕ, eqb}
 
 abbrev pub Word : Type 0
 Word = List ℕ
@@ -19,10 +19,3 @@ words_from w (b ∷ bs) = cond (blank b) (run w (words_from [] bs)) (words_from 
 
 abbrev pub words : List ℕ → List Word
 words line = words_from [] line
-
--- the same bytes
-unfoldable pub same : Word → Word → Bool
-same [] [] = true
-same [] (y ∷ ys) = false
-same (x ∷ xs) [] = false
-same (x ∷ xs) (y ∷ ys) = eqb x y && same xs ys

@@ -1,169 +1,79 @@
 // The words of a console's line, and the numbers that they are.
 #![tactic(auto)]
 
-ghost use Rattle.std.specs.Prelude.{◌≡◌, false, ◌<◌, ◌≤◌, length, get_or};
-ghost use Rattle.console_words.specs.Words.{blank, same};
+ghost use Rattle.std.specs.Prelude.{◌≡◌, not, [], position, MatchOption};
+ghost use Rattle.console_words.specs.Words.{blank, words};
 ghost use Rattle.console_words.specs.Numbers.{unsigned_of, plus, minus, signed_of};
-ghost use Rattle.console_words.specs.Inner.Cursor.{Skipped, WordAt, NextWord};
-
-// A word read as a number without a sign, and as one that may have a sign.
-#[derive(Clone, Copy)]
-pub enum Unsigned {
-    Natural(u64),
-    NotNatural,
-}
-
-#[derive(Clone, Copy)]
-pub enum Signed {
-    Integer(i64),
-    NotInteger,
-}
-
-// The next word of a line: where it starts and ends.
-#[derive(Clone, Copy)]
-pub enum Next {
-    Word(usize, usize),
-    End,
-}
+ghost use Rattle.console_words.specs.Inner.Split.{SplitsWord};
 
 // ---- words
 
 fn is_blank(b: u8) -> bool
     ensures { result ≡ blank b }
 {
-    if b == 32 {
-        return true;
-    }
-    if b == 9 {
-        return true;
-    }
-    b == 13
+    b == b' ' || b == b'\t' || b == b'\r'
 }
 
-// Where the first byte from `at` on that is not blank stands, or the line's length.
-fn skip_blanks(line: &[u8], at: usize) -> usize
-    requires { at ≤ length line.now }
-    ensures { Skipped line.now at result }
+// Where the first word of a line begins.
+fn word_start(line: &[u8]) -> Option<usize>
+    ensures { result ≡ position (λ b. not (blank b)) line.now }
 {
-    let mut i = at;
-    while i < line.len() {
-        if !is_blank(line[i]) {
-            return i;
-        }
-        i += 1;
-    }
-    i
+    line.iter().position(|b| !is_blank(*b))
 }
 
-// Where the word that begins at `from` ends.
-fn word_end(line: &[u8], from: usize) -> usize
-    requires { (from < length line.now) × (blank (get_or line.now from 0) ≡ false) }
-    ensures { WordAt line.now from from result }
+// Where a blank ends the word that a line begins with.
+fn word_end(line: &[u8]) -> Option<usize>
+    ensures { result ≡ position blank line.now }
 {
-    let mut i = from + 1;
-    while i < line.len() {
-        if is_blank(line[i]) {
-            return i;
-        }
-        i += 1;
-    }
-    i
+    line.iter().position(|b| is_blank(*b))
 }
 
-pub fn next_word(line: &[u8], at: usize) -> Next
-    requires { at ≤ length line.now }
-    ensures { NextWord line.now at result }
+// The next word of a line, and what stands behind it.
+pub fn split_word(line: &[u8]) -> Option<(&[u8], &[u8])>
+    ensures { MatchOption result (words line.now ≡ []) (λ s. SplitsWord line.now s.0.now s.1.now) }
 {
-    let from = skip_blanks(line, at);
-    if from == line.len() {
-        return Next::End;
-    }
-    Next::Word(from, word_end(line, from))
-}
-
-pub fn is_same(word: &[u8], text: &[u8]) -> bool
-    ensures { result ≡ same word.now text.now }
-{
-    if word.len() != text.len() {
-        return false;
-    }
-    let mut i: usize = 0;
-    while i < word.len() {
-        if word[i] != text[i] {
-            return false;
-        }
-        i += 1;
-    }
-    true
+    let word = &line[word_start(line)?..];
+    Some(word.split_at(word_end(word).unwrap_or(word.len())))
 }
 
 // ---- numbers
 
-pub fn read_unsigned(word: &[u8]) -> Unsigned
+#[tactic(auto, using(crate::proofs::Numbers::digit_steps))]
+pub fn read_unsigned(word: &[u8]) -> Option<u64>
     ensures { result ≡ unsigned_of word.now }
 {
-    if word.len() == 0 {
-        return Unsigned::NotNatural;
+    if word.is_empty() {
+        return None;
     }
     let mut n: u64 = 0;
-    let mut i: usize = 0;
-    while i < word.len() {
-        let b = word[i];
-        if b < 48 {
-            return Unsigned::NotNatural;
+    for b in word {
+        if !b.is_ascii_digit() {
+            return None;
         }
-        if b > 57 {
-            return Unsigned::NotNatural;
-        }
-        let d = (b - 48) as u64;
-        if n > (18_446_744_073_709_551_615 - d) / 10 {
-            return Unsigned::NotNatural;
-        }
-        n = n * 10 + d;
-        i += 1;
+        n = n.checked_mul(10)?.checked_add(u64::from(*b - b'0'))?;
     }
-    Unsigned::Natural(n)
+    Some(n)
 }
 
-fn plus(x: Unsigned) -> Signed
-    ensures { result ≡ plus x }
+fn plus(n: u64) -> Option<i64>
+    ensures { result ≡ plus n }
 {
-    let Unsigned::Natural(n) = x else {
-        return Signed::NotInteger;
-    };
-    if n > 9_223_372_036_854_775_807 {
-        return Signed::NotInteger;
-    }
-    Signed::Integer(n as i64)
+    i64::try_from(n).ok()
 }
 
-// The least number has no opposite: -n is -1 - (n - 1).
-fn minus(x: Unsigned) -> Signed
-    ensures { result ≡ minus x }
+fn minus(n: u64) -> Option<i64>
+    ensures { result ≡ minus n }
 {
-    let Unsigned::Natural(n) = x else {
-        return Signed::NotInteger;
-    };
-    if n > 9_223_372_036_854_775_808 {
-        return Signed::NotInteger;
-    }
-    if n == 0 {
-        return Signed::Integer(0);
-    }
-    Signed::Integer(-1 - (n - 1) as i64)
+    0i64.checked_sub_unsigned(n)
 }
 
-pub fn read_signed(word: &[u8]) -> Signed
+#[tactic(auto, using(crate::proofs::Numbers::sign_steps))]
+pub fn read_signed(word: &[u8]) -> Option<i64>
     ensures { result ≡ signed_of word.now }
 {
-    if word.len() == 0 {
-        return Signed::NotInteger;
+    match word {
+        [b'+', digits @ ..] => plus(read_unsigned(digits)?),
+        [b'-', digits @ ..] => minus(read_unsigned(digits)?),
+        _ => plus(read_unsigned(word)?),
     }
-    if word[0] == 43 {
-        return plus(read_unsigned(&word[1..]));
-    }
-    if word[0] == 45 {
-        return minus(read_unsigned(&word[1..]));
-    }
-    plus(read_unsigned(word))
 }
