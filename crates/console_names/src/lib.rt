@@ -2,26 +2,24 @@
 #![tactic(auto)]
 
 ghost use Rattle.std.specs.Prelude.{◌≡◌};
-ghost use Rattle.console_names.specs.Names.{later_name, name_of, kind_of, side_of};
-
-use console_words::Unsigned;
+ghost use Rattle.console_names.specs.Names.{name_of, kind_of, side_of};
 
 // The commands of one word, those about a literal, and those about a level or a sentence.
-#[derive(Clone, Copy)]
+#[derive(Clone, Copy, Debug, PartialEq, Eq)]
 pub enum Bare {
     Open,
     Propagate,
     Trail,
 }
 
-#[derive(Clone, Copy)]
+#[derive(Clone, Copy, Debug, PartialEq, Eq)]
 pub enum OfLiteral {
     Give,
     Why,
     Origin,
 }
 
-#[derive(Clone, Copy)]
+#[derive(Clone, Copy, Debug, PartialEq, Eq)]
 pub enum OfNumber {
     Back,
     Bounds,
@@ -29,7 +27,7 @@ pub enum OfNumber {
 }
 
 // The first word of a command's line.
-#[derive(Clone, Copy)]
+#[derive(Clone, Copy, Debug, PartialEq, Eq)]
 pub enum Name {
     Plan,
     Rule,
@@ -39,81 +37,48 @@ pub enum Name {
     Unknown,
 }
 
-// The later names; `read_name` has tried the others.
-fn later_name(word: &[u8]) -> Name
-    ensures { result ≡ later_name word.now }
-{
-    if console_words::is_same(word, b"back") {
-        return Name::Number(OfNumber::Back);
-    }
-    if console_words::is_same(word, b"bounds") {
-        return Name::Number(OfNumber::Bounds);
-    }
-    if console_words::is_same(word, b"why") {
-        return Name::Literal(OfLiteral::Why);
-    }
-    if console_words::is_same(word, b"conflict") {
-        return Name::Number(OfNumber::Conflict);
-    }
-    if console_words::is_same(word, b"origin") {
-        return Name::Literal(OfLiteral::Origin);
-    }
-    if console_words::is_same(word, b"trail") {
-        return Name::Bare(Bare::Trail);
-    }
-    Name::Unknown
-}
-
+#[tactic(auto, using(crate::proofs::Names::bytes_read), unfolding(crate::specs::Names::name_of))]
 pub fn read_name(word: &[u8]) -> Name
     ensures { result ≡ name_of word.now }
 {
-    if console_words::is_same(word, b"plan") {
-        return Name::Plan;
+    match word {
+        b"plan" => Name::Plan,
+        b"rule" => Name::Rule,
+        b"give" => Name::Literal(OfLiteral::Give),
+        b"open" => Name::Bare(Bare::Open),
+        b"propagate" => Name::Bare(Bare::Propagate),
+        b"back" => Name::Number(OfNumber::Back),
+        b"bounds" => Name::Number(OfNumber::Bounds),
+        b"why" => Name::Literal(OfLiteral::Why),
+        b"conflict" => Name::Number(OfNumber::Conflict),
+        b"origin" => Name::Literal(OfLiteral::Origin),
+        b"trail" => Name::Bare(Bare::Trail),
+        _ => Name::Unknown,
     }
-    if console_words::is_same(word, b"rule") {
-        return Name::Rule;
-    }
-    if console_words::is_same(word, b"give") {
-        return Name::Literal(OfLiteral::Give);
-    }
-    if console_words::is_same(word, b"open") {
-        return Name::Bare(Bare::Open);
-    }
-    if console_words::is_same(word, b"propagate") {
-        return Name::Bare(Bare::Propagate);
-    }
-    later_name(word)
 }
 
-pub fn read_kind(word: &[u8]) -> Unsigned
+// Stays: document 01 numbers the kinds and the sides, and load's columns take those numbers.
+#[tactic(auto, using(crate::proofs::Names::bytes_read), unfolding(crate::specs::Names::kind_of))]
+pub fn read_kind(word: &[u8]) -> Option<u64>
     ensures { result ≡ kind_of word.now }
 {
-    if console_words::is_same(word, b"sum") {
-        return Unsigned::Natural(0);
+    match word {
+        b"sum" => Some(0),
+        b"product" => Some(1),
+        b"count" => Some(2),
+        b"max" => Some(3),
+        b"min" => Some(4),
+        _ => None,
     }
-    if console_words::is_same(word, b"product") {
-        return Unsigned::Natural(1);
-    }
-    if console_words::is_same(word, b"count") {
-        return Unsigned::Natural(2);
-    }
-    if console_words::is_same(word, b"max") {
-        return Unsigned::Natural(3);
-    }
-    if console_words::is_same(word, b"min") {
-        return Unsigned::Natural(4);
-    }
-    Unsigned::NotNatural
 }
 
-pub fn read_side(word: &[u8]) -> Unsigned
+#[tactic(auto, using(crate::proofs::Names::bytes_read), unfolding(crate::specs::Names::side_of))]
+pub fn read_side(word: &[u8]) -> Option<u64>
     ensures { result ≡ side_of word.now }
 {
-    if console_words::is_same(word, b">=") {
-        return Unsigned::Natural(0);
+    match word {
+        b">=" => Some(0),
+        b"<=" => Some(1),
+        _ => None,
     }
-    if console_words::is_same(word, b"<=") {
-        return Unsigned::Natural(1);
-    }
-    Unsigned::NotNatural
 }
