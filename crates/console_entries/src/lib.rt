@@ -1,84 +1,53 @@
 // The entries of a rule's line: pairs of a weight and a literal, counted, and stored in columns.
 #![tactic(auto)]
 
-ghost use Rattle.std.specs.Prelude.{◌≡◌, ◌≤◌, length, drop, set};
+ghost use Rattle.std.specs.Prelude.{◌≡◌, [], drop, set, MatchOption};
 ghost use Rattle.std.proofs.lemmas.List.Edits.{sets};
 ghost use Rattle.console_words.specs.Words.{words};
 ghost use Rattle.console_entries.specs.Entries.{entry_count, weights_in, literals_in};
-ghost use Rattle.console_entries.specs.Inner.Cursor.{NextEntry};
+ghost use Rattle.console_entries.specs.Inner.Split.{SplitsNumber, NoNumber, SplitsEntry, NoEntry};
 
-use console_words::{Next, Signed, Unsigned};
-
-// The next entry of a line: weight, literal and where it ends; that the next words are none; or that there is none.
-#[derive(Clone, Copy)]
-enum Taken {
-    Entry(i64, i64, usize),
-    Wrong,
-    Nothing,
-}
-
-fn take_entry(line: &[u8], at: usize) -> Taken
-    requires { at ≤ length line.now }
-    ensures { NextEntry line.now at result }
+// The number that the next word of a line is, and what stands behind it.
+fn split_number(line: &[u8]) -> Option<(i64, &[u8])>
+    ensures { MatchOption result (NoNumber line.now) (λ s. SplitsNumber line.now s.0 s.1.now) }
 {
-    let Next::Word(from, to) = console_words::next_word(line, at) else {
-        return Taken::Nothing;
-    };
-    let Next::Word(start, end) = console_words::next_word(line, to) else {
-        return Taken::Wrong;
-    };
-    let Signed::Integer(weight) = console_words::read_signed(&line[from..to]) else {
-        return Taken::Wrong;
-    };
-    let Signed::Integer(literal) = console_words::read_signed(&line[start..end]) else {
-        return Taken::Wrong;
-    };
-    Taken::Entry(weight, literal, end)
+    let (word, rest) = console_words::split_word(line)?;
+    Some((console_words::read_signed(word)?, rest))
 }
 
-pub fn count_entries(line: &[u8], at: usize) -> Unsigned
-    requires { at ≤ length line.now }
-    ensures { result ≡ entry_count (words (drop at line.now)) }
+// The weight and the literal of the next entry of a line, and what stands behind them.
+fn split_entry(line: &[u8]) -> Option<(i64, i64, &[u8])>
+    ensures { MatchOption result (NoEntry line.now) (λ s. SplitsEntry line.now s.0 s.1 s.2.now) }
+{
+    let (weight, behind) = split_number(line)?;
+    let (literal, rest) = split_number(behind)?;
+    Some((weight, literal, rest))
+}
+
+// The number of entries that a line is; none where its words are not entries.
+pub fn count_entries(line: &[u8]) -> Option<u64>
+    ensures { result ≡ entry_count (words line.now) }
 {
     let mut n: u64 = 0;
-    let mut from = at;
-    loop {
-        let next = take_entry(line, from);
-        match next {
-            Taken::Nothing => {
-                return Unsigned::Natural(n);
-            }
-            Taken::Wrong => {
-                return Unsigned::NotNatural;
-            }
-            Taken::Entry(_, _, to) => {
-                n += 1;
-                from = to;
-            }
-        }
+    let mut rest = line;
+    while console_words::split_word(rest).is_some() {
+        let (_, _, behind) = split_entry(rest)?;
+        n += 1;
+        rest = behind;
     }
+    Some(n)
 }
 
-// Where the first five words end.
-fn skip_five(line: &[u8]) -> usize
-    ensures { (result ≤ length line.now) × (words (drop result line.now) ≡ drop 5 (words line.now)) }
+// What stands behind the first five words of a line.
+fn behind_five(line: &[u8]) -> Option<&[u8]>
+    ensures { MatchOption result (drop 5 (words line.now) ≡ []) (λ rest. words rest.now ≡ drop 5 (words line.now)) }
 {
-    let mut at: usize = 0;
-    let mut k: usize = 0;
-    while k < 5 {
-        k += 1;
-        let Next::Word(_, to) = console_words::next_word(line, at) else {
-            return at;
-        };
-        at = to;
+    let mut rest = line;
+    for _ in 0..5usize {
+        let (_, behind) = console_words::split_word(rest)?;
+        rest = behind;
     }
-    at
-}
-
-fn larger(a: usize, b: usize) -> usize
-    ensures { (a ≤ result) × (b ≤ result) }
-{
-    if a < b { b } else { a }
+    Some(rest)
 }
 
 // At a column's end and behind it nothing is stored.
@@ -95,24 +64,15 @@ pub fn read_entries(line: &[u8], weights: &mut [i64], literals: &mut [i64], at: 
     ensures weights_after { weights.new ≡ sets weights.old at (weights_in line.now) }
     ensures literals_after { literals.new ≡ sets literals.old at (literals_in line.now) }
 {
-    let most = larger(weights.len(), literals.len());
-    let mut k = at;
-    let mut from = skip_five(line);
-    while k < most {
-        let next = take_entry(line, from);
-        match next {
-            Taken::Nothing => {
-                return;
-            }
-            Taken::Wrong => {
-                return;
-            }
-            Taken::Entry(weight, literal, to) => {
-                store(weights, k, weight);
-                store(literals, k, literal);
-                k += 1;
-                from = to;
-            }
-        }
+    let Some(mut rest) = behind_five(line) else {
+        return;
+    };
+    for k in at..weights.len().max(literals.len()) {
+        let Some((weight, literal, behind)) = split_entry(rest) else {
+            return;
+        };
+        store(weights, k, weight);
+        store(literals, k, literal);
+        rest = behind;
     }
 }

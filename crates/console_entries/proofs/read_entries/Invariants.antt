@@ -1,11 +1,8 @@
--- What is left to store gives the whole columns (`Stored`).
-use Prim.Native.Nat.{◌-◌}
-use lib.ListN.{length}
+-- What is left to store makes the whole columns (`Stored`).
+use Rattle.std.proofs.Math.Seq.{sets}
+use Rattle.console_entries.specs.Entries.{weights_in, literals_in}
 use Rattle.console_entries.proofs.Entries.{Stored}
 use Rattle.console_entries.proofs.read_entries.Given as goal
 
 abbrev pub invariant-loop-k : goal.invariant-loop-k
-invariant-loop-k l = Stored l.line l.initial.weights l.initial.literals l.at l.weights l.literals l.k l.from
-
-abbrev pub decreases-loop-k : goal.decreases-loop-k
-decreases-loop-k l = length l.line - l.from
+invariant-loop-k l = Stored (sets l.fn.weights l.at (weights_in l.line)) (sets l.fn.literals l.at (literals_in l.line)) l.weights l.literals l.k l.rest
