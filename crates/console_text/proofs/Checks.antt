@@ -9,9 +9,9 @@ use Rattle.console_names.specs.declared.OfLiteral.TheVariants.{Give, Why}
 use Rattle.console_names.specs.declared.OfNumber.TheVariants.{Back}
 use Rattle.console_text.specs.declared.Command.{Command}
 use Rattle.console_text.specs.declared.Command.TheVariants.{Empty, Comment, Wrong, Plan, Rule, Bare, Literal, Number}
-use Rattle.console_words.specs.Words.{words_from, same}
+use Rattle.console_words.specs.Words.{words_from}
 use Rattle.console_words.specs.Numbers.{all_digits, value_from, unsigned_of, signed_of}
-use Rattle.console_names.specs.Names.{later_name, name_of, kind_of, side_of}
+use Rattle.console_names.specs.Names.{name_of, kind_of, side_of}
 use Rattle.console_entries.specs.Entries.{entries_of, all_entries}
 use Rattle.console_text.specs.Command.{command_of}
 use Rattle.numbers.specs.Text.{bytes}
@@ -46,5 +46,5 @@ rows =
     []
 
 pub lines : map (λ (r : Row). command_of r.line) rows ≡ map (λ (r : Row). r.is) rows
-unfolding words_from same all_digits value_from unsigned_of signed_of later_name name_of kind_of side_of entries_of all_entries command_of
+unfolding words_from all_digits value_from unsigned_of signed_of name_of kind_of side_of entries_of all_entries command_of
 lines = refl

@@ -1,3 +1,3 @@
-pub mod Checks
-pub mod Cursor
+pub mod Lines
 pub mod Rules
+pub mod Checks
