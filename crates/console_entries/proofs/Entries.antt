@@ -1,5 +1,6 @@
 -- Entries, by the next two words.
-use Rattle.std.proofs.Common.{◌≡◌, ◌≢◌, refl, sym, ap, ◌∙◌, ℕ, suc, ◌+◌, ◌≤◌, add-one, arith, List, [], ◌∷◌, length, drop, drop-drop, length-drop, map, false, Bor}
+use Rattle.std.proofs.Common.{◌≡◌, ◌≢◌, refl, sym, ap, ◌∙◌, ℕ, suc, ◌+◌, ◌≤◌, add-one, arith}
+use Rattle.std.proofs.Common.{List, [], ◌∷◌, length, drop, drop-drop, length-drop, map, false, Bor}
 use Rattle.std.proofs.Math.ListN.{set, drop_of_length-le}
 use Rattle.std.proofs.Math.Seq.{sets, set_out}
 use Rattle.std.specs.Prelude.{ℤ, Option, Some, None, is_some, MatchOption}

@@ -1,5 +1,6 @@
 -- Digits read one after the other: the value only grows, so that one past the limit stays past it.
-use Rattle.std.proofs.Common.{◌≡◌, refl, sym, ap, ◌∙◌, ℕ, suc, ◌+◌, ◌*◌, ◌-◌, ◌<◌, ◌≤◌, arith, Bool, true, false, cond, ◌&&◌, [], ◌∷◌, length, take, drop, get_or, drop-cons, length-drop}
+use Rattle.std.proofs.Common.{◌≡◌, refl, sym, ap, ◌∙◌, ℕ, suc, ◌+◌, ◌*◌, ◌-◌, ◌<◌, ◌≤◌, arith, Bool}
+use Rattle.std.proofs.Common.{true, false, cond, ◌&&◌, [], ◌∷◌, length, take, drop, get_or, drop-cons, length-drop}
 use Rattle.std.proofs.Math.Seq.{take_all}
 use Rattle.std.proofs.Math.ListN.{drop_of_length-le}
 use Rattle.std.proofs.Math.Dec.{leb}
@@ -78,6 +79,7 @@ module _ (w : Word) (some : 0 < length w) where
 
   pub only_digits : (get_or w 0 0 ≡ 43 → ⊥) → (get_or w 0 0 ≡ 45 → ⊥) → signed_of w ≡ option_and_then plus (unsigned_of w)
   unfolding signed_of
-  only_digits p m = ap signed_of first_byte ∙ rw (ne_eqb (get_or w 0 0) 43 p, ne_eqb (get_or w 0 0) 45 m) (ap (λ v. option_and_then plus (unsigned_of v)) (sym first_byte))
+  only_digits p m = ap signed_of first_byte ∙ rw (ne_eqb (get_or w 0 0) 43 p, ne_eqb (get_or w 0 0) 45 m)
+      (ap (λ v. option_and_then plus (unsigned_of v)) (sym first_byte))
 
 pub ruleset sign_steps = (no_sign, plus_sign, minus_sign, only_digits, read_none)

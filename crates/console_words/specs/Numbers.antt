@@ -31,4 +31,5 @@ minus n = cond (leb n 9223372036854775808) (Some (neg_ℤ (pos n))) None
 unfoldable pub signed_of : Word → Option ℤ
 signed_of [] = None
 signed_of (b ∷ bs) =
-    cond (eqb b 43) (option_and_then plus (unsigned_of bs)) (cond (eqb b 45) (option_and_then minus (unsigned_of bs)) (option_and_then plus (unsigned_of (b ∷ bs))))
+    cond (eqb b 43) (option_and_then plus (unsigned_of bs))
+    (cond (eqb b 45) (option_and_then minus (unsigned_of bs)) (option_and_then plus (unsigned_of (b ∷ bs))))
