@@ -39,5 +39,5 @@ place Equal = 7
 place Semicolon = 8
 place Other = 9
 
-unfoldable pub is : Class → Class → Bool
+abbrev pub is : Class → Class → Bool
 is k c = eqb (place k) (place c)

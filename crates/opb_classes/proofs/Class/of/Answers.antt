@@ -12,7 +12,7 @@ right : ℕ → Class → Bool
 right b k = is k (class_of b)
 
 table : (b : ℕ) → b < 256 → slice_index_or CLASSES.now b Blank ≡ class_of b
-unfolding right is
+unfolding right
 table b h = same (slice_index_or CLASSES.now b Blank) (class_of b) (at_each right CLASSES.now tt b h Blank)
 
 pub returns : goal.returns
