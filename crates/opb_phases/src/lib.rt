@@ -2,6 +2,7 @@
 #![tactic(auto, unfolding(opb_grammar::specs::Grammar::transition, opb_grammar::specs::Grammar::behind))]
 
 ghost use Rattle.std.specs.Prelude.{◌≡◌, ◌≤◌};
+ghost use Rattle.opb_classes.specs.declared.Class.{Class};
 ghost use Rattle.opb_grammar.specs.Grammar.{transition};
 
 use opb_classes::Class;
@@ -44,7 +45,7 @@ pub fn in_c(s: State, b: u8, class: Class) -> Next
 }
 
 pub fn after_return(s: State, b: u8) -> Next
-    ensures { (class : _) → result ≡ transition Phase.AfterReturn s b class }
+    ensures { (class : Class) → result ≡ transition Phase.AfterReturn s b class }
 {
     match b {
         b'\n' => Next::More(s.at(Phase::LineStart)),
@@ -62,7 +63,7 @@ pub fn line_start(s: State, b: u8, class: Class) -> Next
 }
 
 pub fn comment(s: State, b: u8) -> Next
-    ensures { (class : _) → result ≡ transition Phase.Comment s b class }
+    ensures { (class : Class) → result ≡ transition Phase.Comment s b class }
 {
     match b {
         b'\n' => Next::More(s.at(Phase::LineStart)),
