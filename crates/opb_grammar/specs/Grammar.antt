@@ -8,7 +8,7 @@ use Rattle.opb_grammar.specs.declared.Sizes.{Sizes}
 use Rattle.opb_grammar.specs.declared.Counts.{Counts}
 use Rattle.opb_grammar.specs.declared.State.{State}
 use Rattle.opb_grammar.specs.declared.Fault.{Fault}
-use Rattle.opb_grammar.specs.declared.Fault.TheVariants.{Form, Count, Digits, TooMany}
+use Rattle.opb_grammar.specs.declared.Fault.TheVariants.{Form, Count, Digits, TooLong, TooMany}
 use Rattle.opb_grammar.specs.declared.Next.{Next}
 use Rattle.opb_grammar.specs.declared.Next.TheVariants.{More, Term, Constraint, Refused}
 use Rattle.opb_classes.specs.declared.Class.{Class}
@@ -65,11 +65,12 @@ more n b = record n { size = min (n.size * 10 + (b - digit_zero)) size_limit; di
 -- ---- faults
 
 -- document 01's numbers: 20 not this form; 21 V 0, V + C above 1,024, a variable above V, or not C constraints; 22 an integer of 19 digits
--- or more; 24 more than 256 sentences or 4,096 entries
+-- or more; 23 over 65,536 bytes; 24 more than 256 sentences or 4,096 entries
 abbrev pub fault_number : Fault → ℕ
 fault_number Form = 20
 fault_number Count = 21
 fault_number Digits = 22
+fault_number TooLong = 23
 fault_number TooMany = 24
 
 -- the fault of a number that has ended, the lowest where it has several; it stands at the number's last byte

@@ -83,6 +83,8 @@ pub enum Fault {
     Count,
     // an integer of 19 digits or more
     Digits,
+    // more than 65,536 bytes
+    TooLong,
     // more than 256 sentences or 4,096 entries
     TooMany,
 }
@@ -96,6 +98,7 @@ impl Fault {
             Fault::Form => 20,
             Fault::Count => 21,
             Fault::Digits => 22,
+            Fault::TooLong => 23,
             Fault::TooMany => 24,
         }
     }
