@@ -1,10 +1,9 @@
 -- What a variable without a fault leaves room for.
 use mathlib.Core.Path.{◌≡◌, refl, sym}
 use mathlib.Core.Bool.{Bool, true, false, cond}
-use Prim.Native.Nat.{ℕ, ◌+◌, ◌-◌, ◌≤◌, ◌<◌}
-use native.Mathlib.Omega.{arith}
+use Prim.Native.Nat.{ℕ, ◌<◌}
 use lib.Dec.{leb, ltb}
-use borrow.Author.Tests.{leb-true, leb-false, le-leb, lt-leb}
+use borrow.Author.Tests.{leb-false}
 use Rattle.std.specs.Prelude.{Some, None}
 use Rattle.opb_grammar.specs.declared.State.{State}
 use Rattle.opb_grammar.specs.declared.Fault.TheVariants.{Count, TooMany}

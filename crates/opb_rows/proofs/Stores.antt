@@ -1,12 +1,11 @@
 -- Stores into a column: a front that grows, and a part once more behind itself.
 use mathlib.Core.Path.{◌≡◌, refl, sym, ap, ◌∙◌, subst}
-use mathlib.Core.Bool.{Bool, true, false, cond}
+use mathlib.Core.Bool.{Bool, true, cond}
 use mathlib.Core.List.{List, ◌++◌}
-use Prim.Native.Nat.{ℕ, ◌+◌, ◌-◌, ◌≤◌, ◌<◌}
+use Prim.Native.Nat.{ℕ, ◌+◌, ◌-◌, ◌≤◌}
 use native.Mathlib.Omega.{arith}
-use native.Mathlib.Numerals.{add-one}
-use lib.ListN.{length, get_or, set, take, drop, length-append, length-drop, length-set, get_or-append}
-use lib.Seq.{length-take-le, take_all, take_at, drop-append-add, drop-drop, get_or-drop, sets, sets-eq, paste, paste-zero, paste-suc, slice, length-slice}
+use lib.ListN.{length, take, drop, length-append, length-drop}
+use lib.Seq.{take_at, drop-append-add, drop-drop, sets, sets-eq, slice, length-slice}
 use lib.IntN.{ℤ}
 use Rattle.core.specs.List.{copy_within}
 use Rattle.std.proofs.lemmas.List.{drop-take}

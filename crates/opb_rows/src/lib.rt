@@ -44,6 +44,7 @@ fn put<T: Copy>(column: &mut [T], s: State, x: T, y: T)
 }
 
 // The terms of the constraint that has just been read, for `=` once more.
+#[tactic(auto, using(crate::proofs::Stores::is_copied))]
 fn copy(column: &mut [i64], s: State)
     requires { (cond s.equal (s.counts.terms + s.counts.terms) 0 ≤ s.counts.entries) × (s.counts.entries ≤ length column.old) }
     ensures { column.new ≡ copied s column.old }

@@ -1,8 +1,7 @@
 -- The reader's answer is the first pass's, for the room of the shortest columns.
 use mathlib.Core.Path.{◌≡◌, refl, ◌∙◌, ap₂}
 use mathlib.Core.List.{List}
-use Prim.Native.Nat.{ℕ, min}
-use lib.ListN.{length}
+use Prim.Native.Nat.{ℕ}
 use Rattle.std.specs.Prelude.{Result, Ok, Err}
 use Rattle.columns.specs.Columns.{Columns}
 use Rattle.opb_text.specs.declared.Read.{Read}
