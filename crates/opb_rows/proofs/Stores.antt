@@ -7,7 +7,7 @@ use native.Mathlib.Omega.{arith}
 use lib.ListN.{length, take, drop, length-append, length-drop}
 use lib.Seq.{take_at, drop-append-add, drop-drop, sets, sets-eq, slice, length-slice}
 use lib.IntN.{ℤ}
-use Rattle.core.specs.List.{copy_within}
+use Rattle.std.specs.List.{copy_within}
 use Rattle.std.proofs.lemmas.List.{drop-take}
 use Rattle.columns.specs.Columns.{seven_columns}
 use Rattle.opb_grammar.specs.declared.State.{State}
