@@ -8,12 +8,14 @@ ghost use Rattle.opb_bytes.specs.Inner.States.{StateSound};
 use opb_classes::Class;
 use opb_grammar::{Counts, Fault, Next, Number, Phase, Sizes, State};
 
-// ---- the automaton: a byte b of class k, by the phase
+// ---- the automaton
 
-fn transition(s: State, b: u8, class: Class) -> Next
+// What a byte makes of a state, by the phase.
+pub fn step(s: State, b: u8) -> Next
     requires { StateSound s }
-    ensures { result ≡ grammar.transition s.phase s b class }
+    ensures { result ≡ grammar.step s b }
 {
+    let class = Class::of(b);
     match s.phase {
         Phase::Opening => opb_pieces::opening(s, b),
         Phase::BeforeV => opb_pieces::digits(s, Phase::InV, b, class),
@@ -38,14 +40,6 @@ fn transition(s: State, b: u8, class: Class) -> Next
         Phase::InBound => opb_phases::in_bound(s, b, class),
         Phase::AfterBound => opb_pieces::finish(s, class),
     }
-}
-
-// What a byte makes of a state.
-pub fn step(s: State, b: u8) -> Next
-    requires { StateSound s }
-    ensures { result ≡ grammar.step s b }
-{
-    transition(s, b, Class::of(b))
 }
 
 // ---- the end of the text

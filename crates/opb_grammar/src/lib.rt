@@ -144,12 +144,8 @@ impl Number {
     {
         let digit = u64::from(b.saturating_sub(b'0'));
         Number {
-            size: self
-                .size
-                .saturating_mul(10)
-                .saturating_add(digit)
-                .min(GREATEST),
-            digits: self.digits.saturating_add(1).min(19),
+            size: (self.size.min(GREATEST) * 10 + digit).min(GREATEST),
+            digits: self.digits.min(18) + 1,
             ..self
         }
     }

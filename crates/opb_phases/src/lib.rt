@@ -80,20 +80,22 @@ pub fn in_weight(s: State, b: u8, class: Class) -> Next
     if let Some(fault) = s.long_fault() {
         return Next::Refused(fault);
     }
-    match class {
-        Class::Blank => Next::More(s.weighing(Phase::BeforeX)),
-        _ => Next::Refused(Fault::Form),
+    if class == Class::Blank {
+        return Next::More(s.weighing(Phase::BeforeX));
     }
+    Next::Refused(Fault::Form)
 }
 
 pub fn before_x(s: State, b: u8, class: Class) -> Next
     ensures { result ≡ transition Phase.BeforeX s b class }
 {
-    match class {
-        Class::Blank => Next::More(s.at(Phase::BeforeX)),
-        Class::Ex => Next::More(s.numbering(Phase::BeforeVariable, Number::sign(false))),
-        _ => Next::Refused(Fault::Form),
+    if class == Class::Blank {
+        return Next::More(s.at(Phase::BeforeX));
     }
+    if class == Class::Ex {
+        return Next::More(s.numbering(Phase::BeforeVariable, Number::sign(false)));
+    }
+    Next::Refused(Fault::Form)
 }
 
 pub fn before_variable(s: State, b: u8, class: Class) -> Next
@@ -116,10 +118,10 @@ pub fn in_variable(s: State, b: u8, class: Class) -> Next
     if let Some(fault) = s.variable_fault() {
         return Next::Refused(fault);
     }
-    match class {
-        Class::Blank => Next::Term(opb_pieces::term(s)),
-        _ => Next::Refused(Fault::Form),
+    if class == Class::Blank {
+        return Next::Term(opb_pieces::term(s));
     }
+    Next::Refused(Fault::Form)
 }
 
 pub fn after_term(s: State, b: u8, class: Class) -> Next

@@ -1,7 +1,6 @@
 -- The first pass: the answer at a fault or at the end is the reading's, since the state has counted the sentences and entries of the rows.
 use mathlib.Core.Path.{◌≡◌, refl, sym, ap, subst, ◌∙◌}
 use mathlib.Core.Bool.{Bool, true, false, cond}
-use mathlib.Core.Logic.{◌⊎◌, inl, inr}
 use mathlib.Core.List.{List, [], ◌∷◌, ◌++◌}
 use Prim.Native.Nat.{ℕ, suc, ◌+◌, ◌≤◌, ◌<◌}
 use native.Mathlib.Omega.{arith}
@@ -77,11 +76,11 @@ module _ {text : List ℕ} {s : State} {k i : ℕ} (so : Sofar text s k i) where
   sound_here = sound s so.cs so.es so.reached.held
 
   module _ (h : i < length text) {r : Next} (q : r ≡ step s (get_or text i 0)) where
-    more : (t : State) → r ≡ next.More t → Sofar text t k (i + 1)
+    pub more : (t : State) → r ≡ next.More t → Sofar text t k (i + 1)
     more t m =
         record { cs = so.cs; es = so.es; reached = on_more so.reached h q t m; number = so.number; few = omega (arith, so.few); short = so.short }
 
-    term : (t : State) → r ≡ next.Term t → Sofar text t k (i + 1)
+    pub term : (t : State) → r ≡ next.Term t → Sofar text t k (i + 1)
     term t m =
         record {
           cs = so.cs;
@@ -91,10 +90,6 @@ module _ {text : List ℕ} {s : State} {k i : ℕ} (so : Sofar text s k i) where
           few = omega (arith, so.few);
           short = so.short;
         }
-
-    pub passed : (t : State) → (r ≡ next.More t) ⊎ (r ≡ next.Term t) → Sofar text t k (i + 1)
-    passed t (inl m) = more t m
-    passed t (inr m) = term t m
 
     pub constraint : (t : State) → r ≡ next.Constraint t → Sofar text t (k + 1) (i + 1)
     constraint t m =

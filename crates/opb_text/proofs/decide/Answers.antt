@@ -1,8 +1,8 @@
 -- Each arm of the match is a turn of the definition.
 use mathlib.Core.Path.{◌∙◌}
-use Rattle.opb_text.proofs.Decided.{first, passed, constraint, fault, end, long_answer}
+use Rattle.opb_text.proofs.Decided.{first, more, term, constraint, fault, end, long_answer}
 use Rattle.opb_text.proofs.decide.Goals as goal
-use Rattle.opb_text.proofs.decide.Goals.{in-Constraint, in-More, in-More-2}
+use Rattle.opb_text.proofs.decide.Goals.{in-Constraint, in-More, in-Term}
 
 pub returns-then-text-gt65536 : goal.returns-then-text-gt65536
 returns-then-text-gt65536 c = long_answer c.args.text.now c.args.sentences c.args.entries c.if-text-gt65536.true
@@ -16,8 +16,8 @@ loop-b-preserved c =
     let h = c.loop-b-test.true in
     elim c.match-step.branch [
       | in-Constraint w ↦ rw (w.s-is, w.complete-is) (constraint i h c.step.ensures _ w.in-Constraint.is)
-      | in-More w ↦ rw (w.s-is, w.complete-is) (passed i h c.step.ensures _ w.in-More.is)
-      | in-More-2 w ↦ rw (w.s-is, w.complete-is) (passed i h c.step.ensures _ w.in-More.is)
+      | in-More w ↦ rw (w.s-is, w.complete-is) (more i h c.step.ensures _ w.in-More.is)
+      | in-Term w ↦ rw (w.s-is, w.complete-is) (term i h c.step.ensures _ w.in-Term.is)
     ]
 
 pub returns-in-Refused : goal.returns-in-Refused
