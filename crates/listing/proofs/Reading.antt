@@ -10,9 +10,12 @@ use Rattle.types.specs.Limits.{document}
 use Rattle.meaning.specs.Meaning.{Entry}
 use Rattle.columns.specs.Columns.{Columns, seven_columns, Written, all_written}
 use Rattle.columns.specs.Refusals.{load_answer}
+use Rattle.std.specs.Prelude.{Result, Ok, Err, OnOk}
 use Rattle.opb_text.specs.declared.Read.{Read}
-use Rattle.opb_text.specs.Text.{Constraint, Reading, taken, refused, reading, rows_from, all_entries, columns_of, nothing_read, stored, read_of, over, over_all, result_of, sentence_room, entry_room, Reads}
-use Rattle.opb_text.proofs.Limits.{limits, numbered}
+use Rattle.opb_text.specs.declared.Refusal.{Refusal}
+use Rattle.opb_text.specs.declared.Refusal.TheVariants as refusal
+use Rattle.opb_text.specs.Text.{Constraint, Reading, taken, refused, reading, rows_from, all_entries, columns_of, refusal_number, refusal_value, stored, read_of, over, over_all, result_of, sentence_room, entry_room, Reads}
+use Rattle.opb_text.proofs.Limits.{limits}
 use Rattle.opb_text.proofs.Columns.{same_rows}
 use Rattle.opb_rows.proofs.Stores.{same_columns}
 use Rattle.pages.specs.Page.{Holds, Writes}
@@ -36,52 +39,63 @@ fronts_are xs old =
     (front (λ (e : Entry). e.literal) (all_entries xs) old.literals)
 
 abbrev good : ℕ → ℕ → List Written → Read
-good v c xs = record { code = 0; value = 0; variables = v; constraints = c; sentences = length xs; entries = length (all_entries xs) }
+good v c xs = record { variables = v; constraints = c; sentences = length xs; entries = length (all_entries xs) }
 
-has_room : (v c : ℕ) (xs : List Written) → length xs ≤ 256 → length (all_entries xs) ≤ 4096 → stored 256 4096 v c xs ≡ good v c xs
+has_room : (v c : ℕ) (xs : List Written) → length xs ≤ 256 → length (all_entries xs) ≤ 4096 → stored 256 4096 v c xs ≡ Ok (good v c xs)
 has_room v c xs h g = rw (le-ltb 256 (length xs) h, le-ltb 4096 (length (all_entries xs)) g)
 
-module _ {text : List ℕ} {old new : Columns} {r : Read} (h : Reads text old new r) (se : sentence_room old ≡ 256) (en : entry_room old ≡ 4096) where
+module _ {text : List ℕ} {old new : Columns} {r : Result Read Refusal} (h : Reads text old new r) (se : sentence_room old ≡ 256) (en : entry_room old ≡ 4096) where
   answer_is : r ≡ read_of 256 4096 (reading text)
   answer_is = h.answer ∙ ap₂ (λ (s e : ℕ). read_of s e (reading text)) se en
 
-  stored_answer : (v : ℕ) (cs : List Constraint) → reading text ≡ taken v cs → r ≡ good v (length cs) (rows_from (suc v) cs)
+  stored_answer : (v : ℕ) (cs : List Constraint) → reading text ≡ taken v cs → r ≡ Ok (good v (length cs) (rows_from (suc v) cs))
   stored_answer v cs e =
       let l = limits text v cs e in
       answer_is ∙ ap (read_of 256 4096) e ∙ has_room v (length cs) (rows_from (suc v) cs) l.sentences l.entries
 
-  pub refusal_printed : (¬ (r.code ≡ 0)) → output text ≡ refused_line r.code r.value
+  pub refusal_printed : (x : Refusal) → r ≡ Err x → output text ≡ refused_line (refusal_number x) (refusal_value x)
   unfolding output
-  refusal_printed d = by (reading text) refl
+  refusal_printed x d = by (reading text) refl
     where
-      by : (x : Reading) → reading text ≡ x → printed (reading text) ≡ refused_line r.code r.value
-      by (refused c k) e =
-          let a : r ≡ nothing_read c k = answer_is ∙ ap (read_of 256 4096) e in
-          ap printed e ∙ sym (ap (λ (x : Read). refused_line x.code x.value) a)
-      by (taken v cs) e = absurd (d (ap (λ (x : Read). x.code) (stored_answer v cs e)))
+      by : (y : Reading) → reading text ≡ y → printed (reading text) ≡ refused_line (refusal_number x) (refusal_value x)
+      by (refused f k) e =
+          let q : Err x ≡ read_of 256 4096 (refused f k) = sym d ∙ answer_is ∙ ap (read_of 256 4096) e in
+          let a : x ≡ refusal.Text f k = cc in
+          ap printed e ∙ sym (ap (λ (y : Refusal). refused_line (refusal_number y) (refusal_value y)) a)
+      by (taken v cs) e =
+          let q : Err x ≡ Ok (good v (length cs) (rows_from (suc v) cs)) = sym d ∙ stored_answer v cs e in
+          let b : ⊥ = cc in
+          absurd b
+
+  filled_by : (x : Read) → r ≡ Ok x → new ≡ result_of (reading text) old
+  filled_by x z = subst (λ (y : Result Read Refusal). OnOk y (new ≡ result_of (reading text) old)) z h.filled
 
   pub answered_printed :
-      r.code ≡ 0 →
-      answered r.variables r.constraints (judged_sentences (all_written (fronts r.sentences r.entries new)))
-      (load_answer document area_words (r.variables + r.constraints) (fronts r.sentences r.entries new))
+      (x : Read) → r ≡ Ok x →
+      answered x.variables x.constraints (judged_sentences (all_written (fronts x.sentences x.entries new)))
+      (load_answer document area_words (x.variables + x.constraints) (fronts x.sentences x.entries new))
       ≡ output text
   unfolding output
-  answered_printed z = by (reading text) refl
+  answered_printed x z = by (reading text) refl
     where
       there : ℕ → ℕ → Columns → List ℕ
-      there v c x = answered v c (judged_sentences (all_written x)) (load_answer document area_words (v + c) x)
+      there v c y = answered v c (judged_sentences (all_written y)) (load_answer document area_words (v + c) y)
 
-      by : (x : Reading) → reading text ≡ x → there r.variables r.constraints (fronts r.sentences r.entries new) ≡ printed (reading text)
-      by (refused c k) e = absurd (numbered text c k e (sym (ap (λ (x : Read). x.code) (answer_is ∙ ap (read_of 256 4096) e)) ∙ z))
+      by : (y : Reading) → reading text ≡ y → there x.variables x.constraints (fronts x.sentences x.entries new) ≡ printed (reading text)
+      by (refused f k) e =
+          let q : Ok x ≡ Err (refusal.Text f k) = sym z ∙ answer_is ∙ ap (read_of 256 4096) e in
+          let b : ⊥ = cc in
+          absurd b
       by (taken v cs) e =
           let xs : List Written = rows_from (suc v) cs in
-          let a : r ≡ good v (length cs) xs = stored_answer v cs e in
-          let n : new ≡ over_all (columns_of xs) old = h.filled z ∙ ap (λ (x : Reading). result_of x old) e in
-          ap₂ (λ (x : Read) (c : Columns). there x.variables x.constraints (fronts x.sentences x.entries c)) a n
+          let q : Ok x ≡ Ok (good v (length cs) xs) = sym z ∙ stored_answer v cs e in
+          let a : x ≡ good v (length cs) xs = cc in
+          let n : new ≡ over_all (columns_of xs) old = filled_by x z ∙ ap (λ (y : Reading). result_of y old) e in
+          ap₂ (λ (y : Read) (c : Columns). there y.variables y.constraints (fronts y.sentences y.entries c)) a n
           ∙ ap (there v (length cs)) (fronts_are xs old)
           ∙ ap (λ (ys : List Written). answered v (length cs) (judged_sentences ys) (load_answer document area_words (v + length cs) (columns_of xs))) (same_rows xs)
           ∙ ap printed (sym e)
 
 -- from the start of the page
-pub prints : {input old new : List ℕ} {r : ℕ} (more : List ℕ) → more ≡ output input → Writes old 0 new r more → Prints input old new r
-prints {input} {old} {new} {r} more e w = record { size = w.size; holds = subst (Holds new r) e (w.goes [] (starts old)) }
+pub prints : {input old new more : List ℕ} {r : ℕ} → Writes old 0 new r more → more ≡ output input → Prints input old new r
+prints {input} {old} {new} {more} {r} w e = record { size = w.size; holds = subst (Holds new r) e (w.goes [] (starts old)) }

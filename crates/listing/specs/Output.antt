@@ -10,6 +10,7 @@ use Rattle.columns.specs.Refusals.{load_answer}
 use Rattle.listing_heads.specs.Heads.{heads_given}
 use Rattle.listing_lines.specs.Lines.{state_lines}
 use Rattle.answer_lines.specs.Lines.{refused_line, stop_line}
+use Rattle.opb_grammar.specs.Grammar.{fault_number}
 use Rattle.opb_text.specs.Text.{Reading, reading, rows_from, columns_of}
 use Rattle.opb_text.specs.Text as text
 use Rattle.pages.specs.Page.{Holds}
@@ -42,7 +43,7 @@ abbrev pub answered : ℕ → ℕ → List Judged → load.Answer → List ℕ
 answered v c js a = cond (eqb a.code 0) (listing (heads_given (loaded (v + c) js) v c)) (refused_line a.code a.sentence.0)
 
 abbrev pub printed : Reading → List ℕ
-printed (text.refused code k) = refused_line code k
+printed (text.refused f k) = refused_line (fault_number f) k
 printed (text.taken v cs) =
     let xs = rows_from (suc v) cs in answered v (length cs) (judged_sentences xs) (load_answer document area_words (v + length cs) (columns_of xs))
 

@@ -83,7 +83,7 @@ pub fn run(text: &[u8], page: &mut [u8]) -> usize
     let mut counts = [0u64; SENTENCES];
     let mut weights = [0i64; ENTRIES];
     let mut literals = [0i64; ENTRIES];
-    let r = opb_text::read_text(
+    let read = opb_text::read_text(
         text,
         &mut heads,
         &mut kinds,
@@ -93,15 +93,18 @@ pub fn run(text: &[u8], page: &mut [u8]) -> usize
         &mut weights,
         &mut literals,
     );
-    if r.code != 0 {
-        return pages::put_pair(page, 0, b"refused ", r.code, r.value);
-    }
-    let n = r.sentences as usize;
-    let e = r.entries as usize;
+    let read = match read {
+        Ok(read) => read,
+        Err(refusal) => {
+            return pages::put_pair(page, 0, b"refused ", refusal.number(), refusal.value());
+        }
+    };
+    let n = read.sentences as usize;
+    let e = read.entries as usize;
     list_sentences(
         page,
-        r.variables,
-        r.constraints,
+        read.variables,
+        read.constraints,
         &heads[..n],
         &kinds[..n],
         &sides[..n],

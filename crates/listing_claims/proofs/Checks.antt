@@ -11,7 +11,7 @@ use Rattle.book.specs.Rows.{numbered, any}
 use Rattle.book.specs.Table.{first_to_speak, run, reply}
 use Rattle.columns.specs.Columns.{paired, written_from, sentences_in}
 use Rattle.columns.specs.Refusals.{some_entry, both_signs, all_refusals, first_refusal}
-use Rattle.opb_grammar.specs.Grammar.{more, long_fault, v_fault, c_fault, variable_fault, expect, begin, between, relation_at_least, relation_equal, finish, transition, ends}
+use Rattle.opb_grammar.specs.Grammar.{more, long_fault, v_fault, c_fault, variable_fault, behind, expect, begin, between, relation_at_least, relation_equal, finish, transition, ends}
 use Rattle.opb_text.specs.Text.{go, reading, rows_from, all_entries}
 use Rattle.numbers.specs.Text.{bytes, decimal_within}
 use Rattle.listing_lines.specs.Lines.{row_lines, bound_lines}
@@ -39,5 +39,5 @@ abbrev Right : Printing → Type 0
 Right p = output p.input ≡ p.prints
 
 pub printings_right : Each Right printings
-unfolding output row_lines bound_lines heads_given decimal_within go reading rows_from all_entries more long_fault v_fault c_fault variable_fault expect begin between relation_at_least relation_equal finish transition ends paired written_from sentences_in some_entry both_signs all_refusals first_refusal sum_first turned_all freed_all put collect nonzero gather standing_of extreme first_due first_said numbered any first_to_speak run reply
+unfolding output row_lines bound_lines heads_given decimal_within go reading rows_from all_entries more long_fault v_fault c_fault variable_fault behind expect begin between relation_at_least relation_equal finish transition ends paired written_from sentences_in some_entry both_signs all_refusals first_refusal sum_first turned_all freed_all put collect nonzero gather standing_of extreme first_due first_said numbered any first_to_speak run reply
 printings_right = (refl, (refl, (refl, (refl, (refl, (refl, tt))))))

@@ -29,6 +29,7 @@ use Rattle.book.proofs.Tests.{Passed, both_told, reply_is}
 use Rattle.columns.specs.Columns.{sentences_in}
 use Rattle.columns.specs.Refusals.{load_answer}
 use Rattle.columns.specs.declared.Answer as load
+use Rattle.opb_grammar.specs.Grammar.{fault_number}
 use Rattle.opb_text.specs.Text.{Constraint, Reading, taken, refused, reading, rows_from, columns_of}
 use Rattle.opb_text.proofs.Limits.{limits}
 use Rattle.listing_lines.specs.Lines.{row_line, bound_line, row_lines, bound_lines, state_lines}
@@ -167,7 +168,7 @@ unfolding output
 output_fits input = by (reading input) refl
   where
     by : (x : Reading) → reading input ≡ x → length (printed (reading input)) ≤ page_bytes
-    by (refused c k) e = subst (λ (x : Reading). length (printed x) ≤ page_bytes) (sym e) (omega (arith, refused_length c k))
+    by (refused f k) e = subst (λ (x : Reading). length (printed x) ≤ page_bytes) (sym e) (omega (arith, refused_length (fault_number f) k))
     by (taken v cs) e = subst (λ (x : Reading). length (printed x) ≤ page_bytes) (sym e)
         (answered_length input v cs e (load_answer document area_words (v + length cs) (columns_of (rows_from (suc v) cs))) refl _ refl)
 

@@ -15,17 +15,18 @@ second_of : (a b : Bool) → T (a && b) → T b
 second_of true b t = t
 second_of false b t = absurd t
 
--- the test f passes at each entry of the list and its place, counted from i
-abbrev pub every : (ℕ → ℕ → Bool) → ℕ → List ℕ → Bool
-every f i [] = true
-every f i (x ∷ xs) = f i x && every f (suc i) xs
+module _ {A : Type 0} (f : ℕ → A → Bool) where
+  -- the test passes at each entry of the list and its place, counted from i
+  abbrev pub every : ℕ → List A → Bool
+  every i [] = true
+  every i (x ∷ xs) = f i x && every (suc i) xs
 
-at_from : (f : ℕ → ℕ → Bool) (xs : List ℕ) (i : ℕ) → T (every f i xs) → (k : ℕ) → k < length xs → T (f (i + k) (get_or xs k 0))
-at_from f [] i t k h = absurd (not-suc-le-zero h)
-at_from f (x ∷ xs) i t zero h = subst (λ (m : ℕ). T (f m x)) (sym (add-zero i)) (first_of (f i x) (every f (suc i) xs) t)
-at_from f (x ∷ xs) i t (suc k) h =
-    subst (λ (m : ℕ). T (f m (get_or xs k 0))) (suc-add i k ∙ sym (add-suc i k))
-    (at_from f xs (suc i) (second_of (f i x) (every f (suc i) xs) t) k (le_of_suc-le-suc h))
+  at_from : (xs : List A) (i : ℕ) → T (every i xs) → (k : ℕ) → k < length xs → (d : A) → T (f (i + k) (get_or xs k d))
+  at_from [] i t k h d = absurd (not-suc-le-zero h)
+  at_from (x ∷ xs) i t zero h d = subst (λ (m : ℕ). T (f m x)) (sym (add-zero i)) (first_of (f i x) (every (suc i) xs) t)
+  at_from (x ∷ xs) i t (suc k) h d =
+      subst (λ (m : ℕ). T (f m (get_or xs k d))) (suc-add i k ∙ sym (add-suc i k))
+      (at_from xs (suc i) (second_of (f i x) (every (suc i) xs) t) k (le_of_suc-le-suc h) d)
 
-pub at_each : (f : ℕ → ℕ → Bool) (xs : List ℕ) → T (every f 0 xs) → (k : ℕ) → k < length xs → T (f k (get_or xs k 0))
-at_each f xs t k h = subst (λ (m : ℕ). T (f m (get_or xs k 0))) (zero-add k) (at_from f xs 0 t k h)
+  pub at_each : (xs : List A) → T (every 0 xs) → (k : ℕ) → k < length xs → (d : A) → T (f k (get_or xs k d))
+  at_each xs t k h d = subst (λ (m : ℕ). T (f m (get_or xs k d))) (zero-add k) (at_from xs 0 t k h d)

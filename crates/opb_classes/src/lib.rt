@@ -4,38 +4,62 @@
 ghost use Rattle.std.specs.Prelude.{◌≡◌};
 ghost use Rattle.opb_classes.specs.Bytes.{class_of};
 
-pub const BLANK: u8 = 0;
+use Class::{Blank, Digit, Equal, Ex, Greater, Minus, Other, Plus, Semicolon, Star};
 
-pub const DIGIT: u8 = 1;
+#[derive(Clone, Copy, Debug, PartialEq, Eq)]
+pub enum Class {
+    Blank,
+    Digit,
+    Plus,
+    Minus,
+    Star,
+    Ex,
+    Greater,
+    Equal,
+    Semicolon,
+    Other,
+}
 
-pub const PLUS: u8 = 2;
-
-pub const MINUS: u8 = 3;
-
-pub const STAR: u8 = 4;
-
-pub const EX: u8 = 5;
-
-pub const GREATER: u8 = 6;
-
-pub const EQUAL: u8 = 7;
-
-pub const SEMICOLON: u8 = 8;
-
-const CLASSES: [u8; 256] = [
-    9, 9, 9, 9, 9, 9, 9, 9, 9, 0, 0, 9, 9, 0, 9, 9, 9, 9, 9, 9, 9, 9, 9, 9, 9, 9, 9, 9, 9, 9, 9, 9,
-    0, 9, 9, 9, 9, 9, 9, 9, 9, 9, 4, 2, 9, 3, 9, 9, 1, 1, 1, 1, 1, 1, 1, 1, 1, 1, 9, 8, 9, 7, 6, 9,
-    9, 9, 9, 9, 9, 9, 9, 9, 9, 9, 9, 9, 9, 9, 9, 9, 9, 9, 9, 9, 9, 9, 9, 9, 9, 9, 9, 9, 9, 9, 9, 9,
-    9, 9, 9, 9, 9, 9, 9, 9, 9, 9, 9, 9, 9, 9, 9, 9, 9, 9, 9, 9, 9, 9, 9, 9, 5, 9, 9, 9, 9, 9, 9, 9,
-    9, 9, 9, 9, 9, 9, 9, 9, 9, 9, 9, 9, 9, 9, 9, 9, 9, 9, 9, 9, 9, 9, 9, 9, 9, 9, 9, 9, 9, 9, 9, 9,
-    9, 9, 9, 9, 9, 9, 9, 9, 9, 9, 9, 9, 9, 9, 9, 9, 9, 9, 9, 9, 9, 9, 9, 9, 9, 9, 9, 9, 9, 9, 9, 9,
-    9, 9, 9, 9, 9, 9, 9, 9, 9, 9, 9, 9, 9, 9, 9, 9, 9, 9, 9, 9, 9, 9, 9, 9, 9, 9, 9, 9, 9, 9, 9, 9,
-    9, 9, 9, 9, 9, 9, 9, 9, 9, 9, 9, 9, 9, 9, 9, 9, 9, 9, 9, 9, 9, 9, 9, 9, 9, 9, 9, 9, 9, 9, 9, 9,
+const CLASSES: &[Class; 256] = &[
+    Other, Other, Other, Other, Other, Other, Other, Other, // from 0
+    Other, Blank, Blank, Other, Other, Blank, Other, Other, // from 8
+    Other, Other, Other, Other, Other, Other, Other, Other, // from 16
+    Other, Other, Other, Other, Other, Other, Other, Other, // from 24
+    Blank, Other, Other, Other, Other, Other, Other, Other, // from 32
+    Other, Other, Star, Plus, Other, Minus, Other, Other, // from 40
+    Digit, Digit, Digit, Digit, Digit, Digit, Digit, Digit, // from 48
+    Digit, Digit, Other, Semicolon, Other, Equal, Greater, Other, // from 56
+    Other, Other, Other, Other, Other, Other, Other, Other, // from 64
+    Other, Other, Other, Other, Other, Other, Other, Other, // from 72
+    Other, Other, Other, Other, Other, Other, Other, Other, // from 80
+    Other, Other, Other, Other, Other, Other, Other, Other, // from 88
+    Other, Other, Other, Other, Other, Other, Other, Other, // from 96
+    Other, Other, Other, Other, Other, Other, Other, Other, // from 104
+    Other, Other, Other, Other, Other, Other, Other, Other, // from 112
+    Ex, Other, Other, Other, Other, Other, Other, Other, // from 120
+    Other, Other, Other, Other, Other, Other, Other, Other, // from 128
+    Other, Other, Other, Other, Other, Other, Other, Other, // from 136
+    Other, Other, Other, Other, Other, Other, Other, Other, // from 144
+    Other, Other, Other, Other, Other, Other, Other, Other, // from 152
+    Other, Other, Other, Other, Other, Other, Other, Other, // from 160
+    Other, Other, Other, Other, Other, Other, Other, Other, // from 168
+    Other, Other, Other, Other, Other, Other, Other, Other, // from 176
+    Other, Other, Other, Other, Other, Other, Other, Other, // from 184
+    Other, Other, Other, Other, Other, Other, Other, Other, // from 192
+    Other, Other, Other, Other, Other, Other, Other, Other, // from 200
+    Other, Other, Other, Other, Other, Other, Other, Other, // from 208
+    Other, Other, Other, Other, Other, Other, Other, Other, // from 216
+    Other, Other, Other, Other, Other, Other, Other, Other, // from 224
+    Other, Other, Other, Other, Other, Other, Other, Other, // from 232
+    Other, Other, Other, Other, Other, Other, Other, Other, // from 240
+    Other, Other, Other, Other, Other, Other, Other, Other, // from 248
 ];
 
-// The class of a byte, as the table has it; 9 is a byte of no other class.
-pub fn class(b: u8) -> u8
-    ensures { result ≡ class_of b }
-{
-    CLASSES[b as usize]
+impl Class {
+    // The class of a byte, as the table has it.
+    pub fn of(b: u8) -> Class
+        ensures { result ≡ class_of b }
+    {
+        CLASSES[b as usize]
+    }
 }

@@ -1,13 +1,13 @@
 // What has been read of an OPB text: the state between two bytes, its changes, and the faults of a number that has ended.
 #![tactic(auto)]
 
-ghost use Rattle.std.specs.Prelude.{◌≡◌, ◌+◌, ◌*◌, ◌-◌, ◌<◌, min, leb};
+ghost use Rattle.std.specs.Prelude.{◌≡◌, ◌+◌, leb};
 ghost use Rattle.opb_grammar.specs.Grammar as grammar;
 
 use types::Limits;
 
 // What has been read, and so what may come next.
-#[derive(Clone, Copy)]
+#[derive(Clone, Copy, Debug, PartialEq, Eq)]
 pub enum Phase {
     // the first line: `* #variable= `, V, ` #constraint= `, C, and its end
     Opening,
@@ -38,7 +38,7 @@ pub enum Phase {
 }
 
 // A number as far as it has been read: its size, told up to 10^18, its digits, told up to 19, and whether a minus stands before it.
-#[derive(Clone, Copy)]
+#[derive(Clone, Copy, Debug, PartialEq, Eq)]
 pub struct Number {
     pub size: u64,
     pub digits: u64,
@@ -46,14 +46,14 @@ pub struct Number {
 }
 
 // V and C.
-#[derive(Clone, Copy)]
+#[derive(Clone, Copy, Debug, PartialEq, Eq)]
 pub struct Sizes {
     pub variables: u64,
     pub constraints: u64,
 }
 
 // The terms of the constraint that is being read, and the entries and sentences so far, those of `=` twice.
-#[derive(Clone, Copy)]
+#[derive(Clone, Copy, Debug, PartialEq, Eq)]
 pub struct Counts {
     pub terms: u64,
     pub entries: u64,
@@ -74,13 +74,43 @@ pub struct State {
     pub counts: Counts,
 }
 
+// What a text that is refused is refused for.
+#[derive(Clone, Copy, Debug, PartialEq, Eq)]
+pub enum Fault {
+    // not this form
+    Form,
+    // V 0, V + C above 1,024, a variable above V, or not C constraints
+    Count,
+    // an integer of 19 digits or more
+    Digits,
+    // more than 65,536 bytes
+    TooLong,
+    // more than 256 sentences or 4,096 entries
+    TooMany,
+}
+
+impl Fault {
+    // Document 01's number.
+    pub fn number(self) -> u64
+        ensures { result ≡ grammar.fault_number self }
+    {
+        match self {
+            Fault::Form => 20,
+            Fault::Count => 21,
+            Fault::Digits => 22,
+            Fault::TooLong => 23,
+            Fault::TooMany => 24,
+        }
+    }
+}
+
 // What a byte makes of a state: the text goes on, where a term or a whole constraint may just have been passed, or it is refused.
 #[derive(Clone, Copy)]
 pub enum Next {
     More(State),
     Term(State),
     Constraint(State),
-    Fault(u64),
+    Refused(Fault),
 }
 
 // ---- numbers
@@ -92,240 +122,141 @@ const GREATEST: u64 = 1_000_000_000_000_000_000;
 pub fn within(a: u64, b: u64, limit: u64) -> bool
     ensures { result ≡ leb (a + b) limit }
 {
-    if a > limit {
-        return false;
-    }
-    b <= limit - a
+    a <= limit && b <= limit - a
 }
 
-// What a digit stands for; a byte below `0` stands for 0.
-fn value(b: u8) -> u64
-    ensures { result ≡ b - 48 }
-{
-    if b < b'0' {
-        return 0;
+impl Number {
+    // A number of which no digit has been read.
+    pub fn sign(minus: bool) -> Number
+        ensures { result ≡ grammar.signed minus }
+    {
+        Number {
+            size: 0,
+            digits: 0,
+            minus,
+        }
     }
-    (b - b'0') as u64
-}
 
-// Ten times the size and a digit, told up to 10^18.
-fn grown(size: u64, digit: u64) -> u64
-    requires { digit < 1000 }
-    ensures { result ≡ min (size * 10 + digit) grammar.size_limit }
-{
-    if size >= GREATEST / 10 {
-        return GREATEST;
-    }
-    let n = size * 10 + digit;
-    if n < GREATEST {
-        return n;
-    }
-    GREATEST
-}
-
-// One digit more, told up to 19.
-fn counted(digits: u64) -> u64
-    ensures { result ≡ min (digits + 1) 19 }
-{
-    if digits < 19 {
-        return digits + 1;
-    }
-    19
-}
-
-pub fn more(n: Number, b: u8) -> Number
-    ensures { result ≡ grammar.more n b }
-{
-    Number {
-        size: grown(n.size, value(b)),
-        digits: counted(n.digits),
-        minus: n.minus,
-    }
-}
-
-// A number of which no digit has been read.
-pub fn sign(minus: bool) -> Number
-    ensures { result ≡ grammar.signed minus }
-{
-    Number {
-        size: 0,
-        digits: 0,
-        minus,
+    // One digit more; a byte below `0` stands for 0.
+    #[tactic(auto, unfolding(crate::specs::Grammar::more))]
+    pub fn more(self, b: u8) -> Number
+        ensures { result ≡ grammar.more self b }
+    {
+        let digit = u64::from(b.saturating_sub(b'0'));
+        Number {
+            size: (self.size.min(GREATEST) * 10 + digit).min(GREATEST),
+            digits: self.digits.min(18) + 1,
+            ..self
+        }
     }
 }
 
 // ---- states
 
-fn at(s: State, p: Phase) -> State
-    ensures { result ≡ grammar.at s p }
-{
-    let number = s.number;
-    let weight = s.weight;
-    let sizes = s.sizes;
-    let counts = s.counts;
-    State {
-        phase: p,
-        matched: s.matched,
-        number,
-        weight,
-        equal: s.equal,
-        sizes,
-        counts,
+impl State {
+    pub fn at(self, phase: Phase) -> State
+        ensures { result ≡ grammar.at self phase }
+    {
+        State { phase, ..self }
+    }
+
+    pub fn matching(self, phase: Phase, matched: u64) -> State
+        ensures { result ≡ grammar.matching self phase matched }
+    {
+        State {
+            phase,
+            matched,
+            ..self
+        }
+    }
+
+    pub fn numbering(self, phase: Phase, number: Number) -> State
+        ensures { result ≡ grammar.numbering self phase number }
+    {
+        State {
+            phase,
+            number,
+            ..self
+        }
+    }
+
+    // The number in hand is the weight.
+    pub fn weighing(self, phase: Phase) -> State
+        ensures { result ≡ grammar.weighing self phase }
+    {
+        State {
+            phase,
+            weight: self.number,
+            ..self
+        }
+    }
+
+    pub fn sizing(self, phase: Phase, sizes: Sizes) -> State
+        ensures { result ≡ grammar.sizing self phase sizes }
+    {
+        State {
+            phase,
+            matched: 0,
+            sizes,
+            ..self
+        }
+    }
+
+    pub fn counting(self, phase: Phase, equal: bool, counts: Counts) -> State
+        ensures { result ≡ grammar.counting self phase equal counts }
+    {
+        State {
+            phase,
+            equal,
+            counts,
+            ..self
+        }
     }
 }
 
-pub fn matching(s: State, p: Phase, matched: u64) -> State
-    ensures { result ≡ grammar.matching s p matched }
-{
-    let number = s.number;
-    let weight = s.weight;
-    let sizes = s.sizes;
-    let counts = s.counts;
-    State {
-        phase: p,
-        matched,
-        number,
-        weight,
-        equal: s.equal,
-        sizes,
-        counts,
+// ---- faults of a number that has ended
+
+impl State {
+    #[tactic(auto, unfolding(crate::specs::Grammar::long_fault))]
+    pub fn long_fault(self) -> Option<Fault>
+        ensures { result ≡ grammar.long_fault self }
+    {
+        if self.number.digits < 19 {
+            return None;
+        }
+        Some(Fault::Digits)
     }
-}
 
-fn numbering(s: State, p: Phase, number: Number) -> State
-    ensures { result ≡ grammar.numbering s p number }
-{
-    let weight = s.weight;
-    let sizes = s.sizes;
-    let counts = s.counts;
-    State {
-        phase: p,
-        matched: s.matched,
-        number,
-        weight,
-        equal: s.equal,
-        sizes,
-        counts,
+    #[tactic(auto, unfolding(crate::specs::Grammar::v_fault))]
+    pub fn v_fault(self) -> Option<Fault>
+        ensures { result ≡ grammar.v_fault self }
+    {
+        if self.number.size == 0 {
+            return Some(Fault::Count);
+        }
+        self.long_fault()
     }
-}
 
-// The number in hand is the weight.
-pub fn weighing(s: State, p: Phase) -> State
-    ensures { result ≡ grammar.weighing s p }
-{
-    let number = s.number;
-    let sizes = s.sizes;
-    let counts = s.counts;
-    State {
-        phase: p,
-        matched: s.matched,
-        number,
-        weight: number,
-        equal: s.equal,
-        sizes,
-        counts,
+    #[tactic(auto, unfolding(crate::specs::Grammar::c_fault))]
+    pub fn c_fault(self) -> Option<Fault>
+        ensures { result ≡ grammar.c_fault self }
+    {
+        if within(self.sizes.variables, self.number.size, Limits::ATOMS) {
+            return self.long_fault();
+        }
+        Some(Fault::Count)
     }
-}
 
-pub fn sizing(s: State, p: Phase, sizes: Sizes) -> State
-    ensures { result ≡ grammar.sizing s p sizes }
-{
-    let number = s.number;
-    let weight = s.weight;
-    let counts = s.counts;
-    State {
-        phase: p,
-        matched: 0,
-        number,
-        weight,
-        equal: s.equal,
-        sizes,
-        counts,
+    #[tactic(auto, unfolding(crate::specs::Grammar::variable_fault))]
+    pub fn variable_fault(self) -> Option<Fault>
+        ensures { result ≡ grammar.variable_fault self }
+    {
+        if self.sizes.variables < self.number.size {
+            return Some(Fault::Count);
+        }
+        if self.counts.entries < Limits::ENTRIES {
+            return None;
+        }
+        Some(Fault::TooMany)
     }
-}
-
-pub fn counting(s: State, p: Phase, equal: bool, counts: Counts) -> State
-    ensures { result ≡ grammar.counting s p equal counts }
-{
-    let number = s.number;
-    let weight = s.weight;
-    let sizes = s.sizes;
-    State {
-        phase: p,
-        matched: s.matched,
-        number,
-        weight,
-        equal,
-        sizes,
-        counts,
-    }
-}
-
-// ---- faults of a number that has ended, 0 for none
-
-pub fn long_fault(s: State) -> u64
-    ensures { result ≡ grammar.long_fault s }
-{
-    let n = s.number;
-    if n.digits < 19 {
-        return 0;
-    }
-    22
-}
-
-pub fn v_fault(s: State) -> u64
-    ensures { result ≡ grammar.v_fault s }
-{
-    let n = s.number;
-    if n.size == 0 {
-        return 21;
-    }
-    long_fault(s)
-}
-
-pub fn c_fault(s: State) -> u64
-    ensures { result ≡ grammar.c_fault s }
-{
-    let n = s.number;
-    let sizes = s.sizes;
-    if within(sizes.variables, n.size, Limits::ATOMS) {
-        return long_fault(s);
-    }
-    21
-}
-
-pub fn variable_fault(s: State) -> u64
-    ensures { result ≡ grammar.variable_fault s }
-{
-    let n = s.number;
-    let sizes = s.sizes;
-    let counts = s.counts;
-    if sizes.variables < n.size {
-        return 21;
-    }
-    if counts.entries < Limits::ENTRIES {
-        return 0;
-    }
-    24
-}
-
-// ---- answers of a step
-
-pub fn moved(s: State, p: Phase) -> Next
-    ensures { result ≡ Next.More (grammar.at s p) }
-{
-    Next::More(at(s, p))
-}
-
-pub fn numbered(s: State, p: Phase, number: Number) -> Next
-    ensures { result ≡ Next.More (grammar.numbering s p number) }
-{
-    Next::More(numbering(s, p, number))
-}
-
-// A byte that can't stand there.
-pub fn wrong() -> Next
-    ensures { result ≡ Next.Fault 20 }
-{
-    Next::Fault(20)
 }

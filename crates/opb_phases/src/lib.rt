@@ -1,187 +1,175 @@
 // What a byte makes of a state of an OPB text, in each phase that looks at more than one piece of the grammar.
-#![tactic(auto)]
+#![tactic(auto, unfolding(opb_grammar::specs::Grammar::transition, opb_grammar::specs::Grammar::behind))]
 
 ghost use Rattle.std.specs.Prelude.{◌≡◌, ◌≤◌};
+ghost use Rattle.opb_classes.specs.declared.Class.{Class};
 ghost use Rattle.opb_grammar.specs.Grammar.{transition};
 
-use opb_classes::{BLANK, DIGIT, EQUAL, EX, GREATER, STAR};
-use opb_grammar::{Next, Phase, Sizes, State};
+use opb_classes::Class;
+use opb_grammar::{Fault, Next, Number, Phase, Sizes, State};
 
-pub fn in_v(s: State, b: u8, k: u8) -> Next
-    ensures { result ≡ transition Phase.InV s b k }
+pub fn in_v(s: State, b: u8, class: Class) -> Next
+    ensures { result ≡ transition Phase.InV s b class }
 {
-    if k == DIGIT {
-        return opb_pieces::digits(s, Phase::InV, b, k);
+    if class == Class::Digit {
+        return opb_pieces::digits(s, Phase::InV, b, class);
     }
-    let f = opb_grammar::v_fault(s);
-    if f != 0 {
-        return Next::Fault(f);
+    if let Some(fault) = s.v_fault() {
+        return Next::Refused(fault);
     }
-    let n = s.number;
     let sizes = Sizes {
-        variables: n.size,
+        variables: s.number.size,
         constraints: 0,
     };
-    opb_pieces::middle(opb_grammar::sizing(s, Phase::Middle, sizes), b)
+    opb_pieces::middle(s.sizing(Phase::Middle, sizes), b)
 }
 
-pub fn in_c(s: State, b: u8, k: u8) -> Next
-    ensures { result ≡ transition Phase.InC s b k }
+pub fn in_c(s: State, b: u8, class: Class) -> Next
+    ensures { result ≡ transition Phase.InC s b class }
 {
-    if k == DIGIT {
-        return opb_pieces::digits(s, Phase::InC, b, k);
+    if class == Class::Digit {
+        return opb_pieces::digits(s, Phase::InC, b, class);
     }
-    let f = opb_grammar::c_fault(s);
-    if f != 0 {
-        return Next::Fault(f);
+    if let Some(fault) = s.c_fault() {
+        return Next::Refused(fault);
     }
-    let n = s.number;
-    let before = s.sizes;
     let sizes = Sizes {
-        variables: before.variables,
-        constraints: n.size,
+        constraints: s.number.size,
+        ..s.sizes
     };
-    if b == b'\n' {
-        return Next::More(opb_grammar::sizing(s, Phase::LineStart, sizes));
+    match b {
+        b'\n' => Next::More(s.sizing(Phase::LineStart, sizes)),
+        b'\r' => Next::More(s.sizing(Phase::AfterReturn, sizes)),
+        _ => Next::Refused(Fault::Form),
     }
-    if b == b'\r' {
-        return Next::More(opb_grammar::sizing(s, Phase::AfterReturn, sizes));
-    }
-    opb_grammar::wrong()
 }
 
-pub fn after_return(s: State, b: u8, k: u8) -> Next
-    ensures { result ≡ transition Phase.AfterReturn s b k }
+pub fn after_return(s: State, b: u8) -> Next
+    ensures { (class : Class) → result ≡ transition Phase.AfterReturn s b class }
 {
-    if b == b'\n' {
-        return opb_grammar::moved(s, Phase::LineStart);
+    match b {
+        b'\n' => Next::More(s.at(Phase::LineStart)),
+        _ => Next::Refused(Fault::Form),
     }
-    opb_grammar::wrong()
 }
 
-pub fn line_start(s: State, b: u8, k: u8) -> Next
-    ensures { result ≡ transition Phase.LineStart s b k }
+pub fn line_start(s: State, b: u8, class: Class) -> Next
+    ensures { result ≡ transition Phase.LineStart s b class }
 {
-    if k == STAR {
-        return opb_grammar::moved(s, Phase::Comment);
+    match class {
+        Class::Star => Next::More(s.at(Phase::Comment)),
+        _ => opb_pieces::between(s, b, class),
     }
-    opb_pieces::between(s, b, k)
 }
 
-pub fn comment(s: State, b: u8, k: u8) -> Next
-    ensures { result ≡ transition Phase.Comment s b k }
+pub fn comment(s: State, b: u8) -> Next
+    ensures { (class : Class) → result ≡ transition Phase.Comment s b class }
 {
-    if b == b'\n' {
-        return opb_grammar::moved(s, Phase::LineStart);
+    match b {
+        b'\n' => Next::More(s.at(Phase::LineStart)),
+        _ => Next::More(s.at(Phase::Comment)),
     }
-    opb_grammar::moved(s, Phase::Comment)
 }
 
-pub fn in_weight(s: State, b: u8, k: u8) -> Next
-    ensures { result ≡ transition Phase.InWeight s b k }
+pub fn in_weight(s: State, b: u8, class: Class) -> Next
+    ensures { result ≡ transition Phase.InWeight s b class }
 {
-    if k == DIGIT {
-        return opb_pieces::digits(s, Phase::InWeight, b, k);
+    if class == Class::Digit {
+        return opb_pieces::digits(s, Phase::InWeight, b, class);
     }
-    let f = opb_grammar::long_fault(s);
-    if f != 0 {
-        return Next::Fault(f);
+    if let Some(fault) = s.long_fault() {
+        return Next::Refused(fault);
     }
-    if k == BLANK {
-        return Next::More(opb_grammar::weighing(s, Phase::BeforeX));
+    if class == Class::Blank {
+        return Next::More(s.weighing(Phase::BeforeX));
     }
-    opb_grammar::wrong()
+    Next::Refused(Fault::Form)
 }
 
-pub fn before_x(s: State, b: u8, k: u8) -> Next
-    ensures { result ≡ transition Phase.BeforeX s b k }
+pub fn before_x(s: State, b: u8, class: Class) -> Next
+    ensures { result ≡ transition Phase.BeforeX s b class }
 {
-    if k == BLANK {
-        return opb_grammar::moved(s, Phase::BeforeX);
+    if class == Class::Blank {
+        return Next::More(s.at(Phase::BeforeX));
     }
-    if k == EX {
-        return opb_grammar::numbered(s, Phase::BeforeVariable, opb_grammar::sign(false));
+    if class == Class::Ex {
+        return Next::More(s.numbering(Phase::BeforeVariable, Number::sign(false)));
     }
-    opb_grammar::wrong()
+    Next::Refused(Fault::Form)
 }
 
-pub fn before_variable(s: State, b: u8, k: u8) -> Next
-    ensures { result ≡ transition Phase.BeforeVariable s b k }
+pub fn before_variable(s: State, b: u8, class: Class) -> Next
+    ensures { result ≡ transition Phase.BeforeVariable s b class }
 {
-    if b == b'0' {
-        return opb_grammar::wrong();
+    match b {
+        b'0' => Next::Refused(Fault::Form),
+        _ => opb_pieces::digits(s, Phase::InVariable, b, class),
     }
-    opb_pieces::digits(s, Phase::InVariable, b, k)
 }
 
-pub fn in_variable(s: State, b: u8, k: u8) -> Next
+#[tactic(auto, using(opb_grammar::proofs::Sums::entry_left), unfolding(opb_grammar::specs::Grammar::transition, opb_grammar::specs::Grammar::behind))]
+pub fn in_variable(s: State, b: u8, class: Class) -> Next
     requires { s.counts.terms ≤ s.counts.entries }
-    ensures { result ≡ transition Phase.InVariable s b k }
+    ensures { result ≡ transition Phase.InVariable s b class }
 {
-    if k == DIGIT {
-        return opb_pieces::digits(s, Phase::InVariable, b, k);
+    if class == Class::Digit {
+        return opb_pieces::digits(s, Phase::InVariable, b, class);
     }
-    let f = opb_grammar::variable_fault(s);
-    if f != 0 {
-        return Next::Fault(f);
+    if let Some(fault) = s.variable_fault() {
+        return Next::Refused(fault);
     }
-    if k == BLANK {
+    if class == Class::Blank {
         return Next::Term(opb_pieces::term(s));
     }
-    opb_grammar::wrong()
+    Next::Refused(Fault::Form)
 }
 
-pub fn after_term(s: State, b: u8, k: u8) -> Next
-    ensures { result ≡ transition Phase.AfterTerm s b k }
+pub fn after_term(s: State, b: u8, class: Class) -> Next
+    ensures { result ≡ transition Phase.AfterTerm s b class }
 {
-    if k == BLANK {
-        return opb_grammar::moved(s, Phase::AfterTerm);
+    match class {
+        Class::Blank => Next::More(s.at(Phase::AfterTerm)),
+        Class::Greater => Next::More(s.at(Phase::AfterGreater)),
+        Class::Equal => opb_pieces::relation_equal(s),
+        _ => opb_pieces::begin(Phase::WeightSign, Phase::InWeight, s, b, class),
     }
-    if k == GREATER {
-        return opb_grammar::moved(s, Phase::AfterGreater);
-    }
-    if k == EQUAL {
-        return opb_pieces::relation_equal(s);
-    }
-    opb_pieces::begin(Phase::WeightSign, Phase::InWeight, s, b, k)
 }
 
-pub fn after_greater(s: State, b: u8, k: u8) -> Next
-    ensures { result ≡ transition Phase.AfterGreater s b k }
+pub fn after_greater(s: State, b: u8, class: Class) -> Next
+    ensures { result ≡ transition Phase.AfterGreater s b class }
 {
-    if k == EQUAL {
-        return opb_pieces::relation_at_least(s);
+    match class {
+        Class::Equal => opb_pieces::relation_at_least(s),
+        _ => Next::Refused(Fault::Form),
     }
-    opb_grammar::wrong()
 }
 
-pub fn after_relation(s: State, b: u8, k: u8) -> Next
-    ensures { result ≡ transition Phase.AfterRelation s b k }
+pub fn after_relation(s: State, b: u8, class: Class) -> Next
+    ensures { result ≡ transition Phase.AfterRelation s b class }
 {
-    if k == BLANK {
-        return opb_grammar::moved(s, Phase::BeforeBound);
+    match class {
+        Class::Blank => Next::More(s.at(Phase::BeforeBound)),
+        _ => Next::Refused(Fault::Form),
     }
-    opb_grammar::wrong()
 }
 
-pub fn before_bound(s: State, b: u8, k: u8) -> Next
-    ensures { result ≡ transition Phase.BeforeBound s b k }
+pub fn before_bound(s: State, b: u8, class: Class) -> Next
+    ensures { result ≡ transition Phase.BeforeBound s b class }
 {
-    if k == BLANK {
-        return opb_grammar::moved(s, Phase::BeforeBound);
+    match class {
+        Class::Blank => Next::More(s.at(Phase::BeforeBound)),
+        _ => opb_pieces::begin(Phase::BoundSign, Phase::InBound, s, b, class),
     }
-    opb_pieces::begin(Phase::BoundSign, Phase::InBound, s, b, k)
 }
 
-pub fn in_bound(s: State, b: u8, k: u8) -> Next
-    ensures { result ≡ transition Phase.InBound s b k }
+pub fn in_bound(s: State, b: u8, class: Class) -> Next
+    ensures { result ≡ transition Phase.InBound s b class }
 {
-    if k == DIGIT {
-        return opb_pieces::digits(s, Phase::InBound, b, k);
+    if class == Class::Digit {
+        return opb_pieces::digits(s, Phase::InBound, b, class);
     }
-    let f = opb_grammar::long_fault(s);
-    if f != 0 {
-        return Next::Fault(f);
+    if let Some(fault) = s.long_fault() {
+        return Next::Refused(fault);
     }
-    opb_pieces::finish(s, k)
+    opb_pieces::finish(s, class)
 }

@@ -4,26 +4,26 @@
 ghost use Rattle.std.specs.Prelude.{◌≡◌, ◌<◌, ◌≤◌, length};
 ghost use Rattle.opb_grammar.specs.Grammar as grammar;
 
-use opb_classes::{BLANK, DIGIT, MINUS, PLUS, SEMICOLON};
-use opb_grammar::{Counts, Next, Phase, State};
+use opb_classes::Class;
+use opb_grammar::{Counts, Fault, Next, Number, Phase, State};
 use types::Limits;
 
 // ---- pieces of the text
 
 // The next byte of a fixed text, in phase p; a number follows in phase q.
+#[tactic(auto, unfolding(opb_grammar::specs::Grammar::expect))]
 fn expect(text: &[u8], p: Phase, q: Phase, s: State, b: u8) -> Next
     requires { s.matched < length text.now }
     ensures { result ≡ grammar.expect text.now p q s b }
 {
-    let matched = s.matched;
-    let i = matched as usize;
+    let i = s.matched as usize;
     if text[i] != b {
-        return opb_grammar::wrong();
+        return Next::Refused(Fault::Form);
     }
     if i + 1 == text.len() {
-        return opb_grammar::numbered(s, q, opb_grammar::sign(false));
+        return Next::More(s.numbering(q, Number::sign(false)));
     }
-    Next::More(opb_grammar::matching(s, p, matched + 1))
+    Next::More(s.matching(p, s.matched + 1))
 }
 
 pub fn opening(s: State, b: u8) -> Next
@@ -40,44 +40,48 @@ pub fn middle(s: State, b: u8) -> Next
     expect(b" #constraint= ", Phase::Middle, Phase::BeforeC, s, b)
 }
 
+// Stays: ifs that return, here and in the phases that most bytes meet. A match was tried, too slow: it copies its answer once more (a text
+// of blanks took 31.1 million instructions for 26.9).
+
 // A digit, and no other byte.
-pub fn digits(s: State, p: Phase, b: u8, k: u8) -> Next
-    ensures { result ≡ grammar.digits s p b k }
+pub fn digits(s: State, p: Phase, b: u8, class: Class) -> Next
+    ensures { result ≡ grammar.digits s p b class }
 {
-    let n = s.number;
-    if k == DIGIT {
-        return opb_grammar::numbered(s, p, opb_grammar::more(n, b));
+    if class == Class::Digit {
+        return Next::More(s.numbering(p, s.number.more(b)));
     }
-    opb_grammar::wrong()
+    Next::Refused(Fault::Form)
 }
 
 // A number that may have a sign: phase p behind the sign, q behind a digit.
-pub fn begin(p: Phase, q: Phase, s: State, b: u8, k: u8) -> Next
-    ensures { result ≡ grammar.begin p q s b k }
+#[tactic(auto, unfolding(opb_grammar::specs::Grammar::begin))]
+pub fn begin(p: Phase, q: Phase, s: State, b: u8, class: Class) -> Next
+    ensures { result ≡ grammar.begin p q s b class }
 {
-    if k == DIGIT {
-        return opb_grammar::numbered(s, q, opb_grammar::more(opb_grammar::sign(false), b));
+    if class == Class::Digit {
+        return Next::More(s.numbering(q, Number::sign(false).more(b)));
     }
-    if k == PLUS {
-        return opb_grammar::numbered(s, p, opb_grammar::sign(false));
+    if class == Class::Plus {
+        return Next::More(s.numbering(p, Number::sign(false)));
     }
-    if k == MINUS {
-        return opb_grammar::numbered(s, p, opb_grammar::sign(true));
+    if class == Class::Minus {
+        return Next::More(s.numbering(p, Number::sign(true)));
     }
-    opb_grammar::wrong()
+    Next::Refused(Fault::Form)
 }
 
 // Outside constraints: blanks, or a constraint's first term.
-pub fn between(s: State, b: u8, k: u8) -> Next
-    ensures { result ≡ grammar.between s b k }
+#[tactic(auto, unfolding(opb_grammar::specs::Grammar::between))]
+pub fn between(s: State, b: u8, class: Class) -> Next
+    ensures { result ≡ grammar.between s b class }
 {
     if b == b'\n' {
-        return opb_grammar::moved(s, Phase::LineStart);
+        return Next::More(s.at(Phase::LineStart));
     }
-    if k == BLANK {
-        return opb_grammar::moved(s, Phase::Between);
+    if class == Class::Blank {
+        return Next::More(s.at(Phase::Between));
     }
-    begin(Phase::WeightSign, Phase::InWeight, s, b, k)
+    begin(Phase::WeightSign, Phase::InWeight, s, b, class)
 }
 
 // A term is complete.
@@ -85,68 +89,63 @@ pub fn term(s: State) -> State
     requires { (s.counts.terms ≤ s.counts.entries) × (s.counts.entries < grammar.entries_limit) }
     ensures { result ≡ grammar.term s }
 {
-    let c = s.counts;
     let counts = Counts {
-        terms: c.terms + 1,
-        entries: c.entries + 1,
-        sentences: c.sentences,
+        terms: s.counts.terms + 1,
+        entries: s.counts.entries + 1,
+        ..s.counts
     };
-    opb_grammar::counting(s, Phase::AfterTerm, s.equal, counts)
+    s.counting(Phase::AfterTerm, s.equal, counts)
 }
 
 // `>=` makes one sentence.
+#[tactic(auto, unfolding(opb_grammar::specs::Grammar::relation_at_least))]
 pub fn relation_at_least(s: State) -> Next
     ensures { result ≡ grammar.relation_at_least s }
 {
-    let c = s.counts;
-    if c.sentences >= Limits::SENTENCES {
-        return Next::Fault(24);
+    if s.counts.sentences >= Limits::SENTENCES {
+        return Next::Refused(Fault::TooMany);
     }
     let counts = Counts {
-        terms: c.terms,
-        entries: c.entries,
-        sentences: c.sentences + 1,
+        sentences: s.counts.sentences + 1,
+        ..s.counts
     };
-    Next::More(opb_grammar::counting(s, Phase::AfterRelation, false, counts))
+    Next::More(s.counting(Phase::AfterRelation, false, counts))
 }
 
 // From so many sentences on there is no room for two more.
 const NO_ROOM_FOR_TWO: u64 = Limits::SENTENCES - 1;
 
 // `=` makes two sentences, with its terms once more.
+#[tactic(auto, unfolding(opb_grammar::specs::Grammar::relation_equal))]
 pub fn relation_equal(s: State) -> Next
     ensures { result ≡ grammar.relation_equal s }
 {
-    let c = s.counts;
-    if c.sentences >= NO_ROOM_FOR_TWO {
-        return Next::Fault(24);
-    }
-    if !opb_grammar::within(c.entries, c.terms, Limits::ENTRIES) {
-        return Next::Fault(24);
+    let room = opb_grammar::within(s.counts.entries, s.counts.terms, Limits::ENTRIES);
+    if s.counts.sentences >= NO_ROOM_FOR_TWO || !room {
+        return Next::Refused(Fault::TooMany);
     }
     let counts = Counts {
-        terms: c.terms,
-        entries: c.entries + c.terms,
-        sentences: c.sentences + 2,
+        entries: s.counts.entries + s.counts.terms,
+        sentences: s.counts.sentences + 2,
+        ..s.counts
     };
-    Next::More(opb_grammar::counting(s, Phase::AfterRelation, true, counts))
+    Next::More(s.counting(Phase::AfterRelation, true, counts))
 }
 
 // Behind the right side: blanks, or `;`.
-pub fn finish(s: State, k: u8) -> Next
-    ensures { result ≡ grammar.finish s k }
+#[tactic(auto, unfolding(opb_grammar::specs::Grammar::finish))]
+pub fn finish(s: State, class: Class) -> Next
+    ensures { result ≡ grammar.finish s class }
 {
-    if k == BLANK {
-        return opb_grammar::moved(s, Phase::AfterBound);
+    match class {
+        Class::Blank => Next::More(s.at(Phase::AfterBound)),
+        Class::Semicolon => {
+            let counts = Counts {
+                terms: 0,
+                ..s.counts
+            };
+            Next::Constraint(s.counting(Phase::Between, s.equal, counts))
+        }
+        _ => Next::Refused(Fault::Form),
     }
-    if k != SEMICOLON {
-        return opb_grammar::wrong();
-    }
-    let c = s.counts;
-    let counts = Counts {
-        terms: 0,
-        entries: c.entries,
-        sentences: c.sentences,
-    };
-    Next::Constraint(opb_grammar::counting(s, Phase::Between, s.equal, counts))
 }

@@ -10,9 +10,11 @@ use Rattle.numbers.specs.Text.{bytes}
 use Rattle.meaning.specs.Meaning.{Entry}
 use Rattle.opb_grammar.specs.declared.Phase.TheVariants.{AfterTerm}
 use Rattle.opb_grammar.specs.declared.State.{State}
+use Rattle.std.specs.Prelude.{Some, None}
+use Rattle.opb_grammar.specs.declared.Fault.TheVariants.{Form, Count, Digits, TooLong, TooMany}
 use Rattle.opb_grammar.specs.declared.Next.{Next}
-use Rattle.opb_grammar.specs.declared.Next.TheVariants.{More, Term, Constraint as Passed, Fault}
-use Rattle.opb_grammar.specs.Grammar.{sizing, more, long_fault, v_fault, c_fault, variable_fault, expect, begin, between, relation_at_least, relation_equal, finish, transition, ends}
+use Rattle.opb_grammar.specs.declared.Next.TheVariants.{More, Term, Constraint as Passed, Refused}
+use Rattle.opb_grammar.specs.Grammar.{sizing, fault_number, more, long_fault, v_fault, c_fault, variable_fault, behind, expect, begin, between, relation_at_least, relation_equal, finish, transition, ends}
 use Rattle.opb_text.specs.Text.{Constraint, Reading, taken, refused, go, reading}
 
 -- three variables and one constraint, and then this
@@ -75,53 +77,53 @@ good =
     (taken 1 (at_least (term (pos 1) 1 ∷ term (pos 1) 1 ∷ []) (pos 1) ∷ equals (term (pos 1) 1 ∷ []) (pos 1) ∷ [])) ∷ []
 
 pub all_taken : map (λ (r : Row). reading r.text) good ≡ map (λ (r : Row). r.says) good
-unfolding reading go transition more long_fault v_fault c_fault variable_fault expect begin between relation_at_least relation_equal finish ends
+unfolding reading go transition more long_fault v_fault c_fault variable_fault expect begin between relation_at_least relation_equal finish ends behind
 all_taken = refl
 
--- ---- texts that are refused, with the number of constraints complete before the fault
+-- ---- texts that are refused, with the number of constraints complete before the fault: 20 is `Form`, 21 `Count`, 22 `Digits`, 23 `TooLong` and 24 `TooMany`
 
 abbrev pub bad : List Row
 bad =
     -- 20: the first line
-    each (refused 20 0) ("" ∷ "* #variable= 3 #constraint= 1" ∷ "* #variable= 3 #constraint= 1\r1 x1 >= 1 ;" ∷
+    each (refused Form 0) ("" ∷ "* #variable= 3 #constraint= 1" ∷ "* #variable= 3 #constraint= 1\r1 x1 >= 1 ;" ∷
     "* #variable=3 #constraint= 1\n1 x1 >= 1 ;" ∷ "* #variable= 3  #constraint= 1\n1 x1 >= 1 ;" ∷
     "* #variable= 3 #constraint= 1 \n1 x1 >= 1 ;" ∷ "* #variable= +3 #constraint= 1\n1 x1 >= 1 ;" ∷
     "* #variable= 3 #constraint= \n1 x1 >= 1 ;" ∷ "1 x1 >= 1 ;" ∷ []) ++
     -- 20: comments, which start a line
-    after_line (refused 20 1) ("1 x1 >= 1 ; * no line's start\n" ∷ []) ++
-    after_line (refused 20 0) (" * no line's start\n1 x1 >= 1 ;" ∷ "1 x1\n* inside a constraint\n>= 1 ;" ∷ []) ++
+    after_line (refused Form 1) ("1 x1 >= 1 ; * no line's start\n" ∷ []) ++
+    after_line (refused Form 0) (" * no line's start\n1 x1 >= 1 ;" ∷ "1 x1\n* inside a constraint\n>= 1 ;" ∷ []) ++
     -- 20: terms
-    after_line (refused 20 0) ("+ 1 x1 >= 1 ;" ∷ "-x1 >= 1 ;" ∷ "1x1 >= 1 ;" ∷ "1 x >= 1 ;" ∷ "1 x01 >= 1 ;" ∷ "1 x0 >= 1 ;" ∷
+    after_line (refused Form 0) ("+ 1 x1 >= 1 ;" ∷ "-x1 >= 1 ;" ∷ "1x1 >= 1 ;" ∷ "1 x >= 1 ;" ∷ "1 x01 >= 1 ;" ∷ "1 x0 >= 1 ;" ∷
     "1 y1 >= 1 ;" ∷ "1 ~x1 >= 1 ;" ∷ "1 x1+1 x2 >= 1 ;" ∷ ">= 1 ;" ∷ "min: 1 x1 ;" ∷ []) ++
     -- 20: relation and right side
-    after_line (refused 20 0) ("1 x1>= 1 ;" ∷ "1 x1 >=1 ;" ∷ "1 x1 =1 ;" ∷ "1 x1 > = 1 ;" ∷ "1 x1 <= 1 ;" ∷ "1 x1 >= - 1 ;" ∷ "1 x1 >= ;" ∷
+    after_line (refused Form 0) ("1 x1>= 1 ;" ∷ "1 x1 >=1 ;" ∷ "1 x1 =1 ;" ∷ "1 x1 > = 1 ;" ∷ "1 x1 <= 1 ;" ∷ "1 x1 >= - 1 ;" ∷ "1 x1 >= ;" ∷
     "1 x1 >= 1 2 ;" ∷ []) ++
-    after_line (refused 20 1) ("1 x1 >= 1 ;;" ∷ []) ++
+    after_line (refused Form 1) ("1 x1 >= 1 ;;" ∷ []) ++
     -- 20: the end inside a constraint
-    after_line (refused 20 0) ("1" ∷ "1 " ∷ "1 x" ∷ "1 x1" ∷ "1 x1 >" ∷ "1 x1 >=" ∷ "1 x1 >= " ∷ "1 x1 >= 1" ∷ "1 x1 >= 1 " ∷ []) ++
-    after_line (refused 20 1) ("1 x1 >= 1 ;\n1 x1" ∷ []) ++
+    after_line (refused Form 0) ("1" ∷ "1 " ∷ "1 x" ∷ "1 x1" ∷ "1 x1 >" ∷ "1 x1 >=" ∷ "1 x1 >= " ∷ "1 x1 >= 1" ∷ "1 x1 >= 1 " ∷ []) ++
+    after_line (refused Form 1) ("1 x1 >= 1 ;\n1 x1" ∷ []) ++
     -- 21: V 0, V + C above 1,024, a variable above V, at its last byte
-    each (refused 21 0) ("* #variable= 0 #constraint= 1\n1 x1 >= 1 ;" ∷ "* #variable= 0" ∷ "* #variable= 1024 #constraint= 1\n1 x1 >= 1 ;" ∷
+    each (refused Count 0) ("* #variable= 0 #constraint= 1\n1 x1 >= 1 ;" ∷ "* #variable= 0" ∷ "* #variable= 1024 #constraint= 1\n1 x1 >= 1 ;" ∷
     "* #variable= 1025 #constraint= 0\n" ∷ []) ++
-    each (refused 20 0) ("* #variable= 1025 #constraint" ∷ []) ++
-    after_line (refused 21 0) ("1 x4 >= 1 ;" ∷ "1 x9y" ∷ "1 x9" ∷ "1 x30 >= 1 ;" ∷ []) ++
-    after_line (refused 20 0) ("1 x3y" ∷ []) ++
+    each (refused Form 0) ("* #variable= 1025 #constraint" ∷ []) ++
+    after_line (refused Count 0) ("1 x4 >= 1 ;" ∷ "1 x9y" ∷ "1 x9" ∷ "1 x30 >= 1 ;" ∷ []) ++
+    after_line (refused Form 0) ("1 x3y" ∷ []) ++
     -- 21: a constraint too few, and one too many, at the end only
-    after_line (refused 21 0) ("" ∷ []) ++
-    each (refused 21 1) ("* #variable= 3 #constraint= 2\n1 x1 >= 1 ;" ∷ []) ++
-    after_line (refused 21 2) ("1 x1 >= 1 ;1 x1 >= 1 ;" ∷ "1 x1 >= 1 ;1 x1 >= 1 ; 1 x4" ∷ []) ++
-    after_line (refused 20 2) ("1 x1 >= 1 ;1 x1 >= 1 ; y" ∷ []) ++
+    after_line (refused Count 0) ("" ∷ []) ++
+    each (refused Count 1) ("* #variable= 3 #constraint= 2\n1 x1 >= 1 ;" ∷ []) ++
+    after_line (refused Count 2) ("1 x1 >= 1 ;1 x1 >= 1 ;" ∷ "1 x1 >= 1 ;1 x1 >= 1 ; 1 x4" ∷ []) ++
+    after_line (refused Form 2) ("1 x1 >= 1 ;1 x1 >= 1 ; y" ∷ []) ++
     -- 22: an integer of 19 digits, leading zeros counted, at its last byte
-    after_line (refused 22 0) ("1234567890123456789 x1 >= 1 ;" ∷ "0000000000000000001 x1 >= 1 ;" ∷ "-0000000000000000001y" ∷
+    after_line (refused Digits 0) ("1234567890123456789 x1 >= 1 ;" ∷ "0000000000000000001 x1 >= 1 ;" ∷ "-0000000000000000001y" ∷
     "1 x1 >= 0000000000000000001;" ∷ []) ++
-    after_line (refused 22 1) ("1 x1 >= 1;2 x1 >= -12345678901234567890" ∷ []) ++
-    each (refused 22 0) ("* #variable= 0000000000000000003 #constraint= 1\n" ∷ "* #variable= 3 #constraint= 0000000000000000001\n" ∷ []) ++
+    after_line (refused Digits 1) ("1 x1 >= 1;2 x1 >= -12345678901234567890" ∷ []) ++
+    each (refused Digits 0) ("* #variable= 0000000000000000003 #constraint= 1\n" ∷ "* #variable= 3 #constraint= 0000000000000000001\n" ∷ []) ++
     -- the lowest where several fall on one byte: 21 of 19 zeros for V, of 19 digits for C, and of a long variable
-    each (refused 21 0) ("* #variable= 0000000000000000000 #constraint= 1\n" ∷ "* #variable= 3 #constraint= 1234567890123456789\n" ∷ []) ++
-    after_line (refused 21 0) ("1 x1234567890123456789 >= 1 ;" ∷ "1 x12345678901234567890y" ∷ [])
+    each (refused Count 0) ("* #variable= 0000000000000000000 #constraint= 1\n" ∷ "* #variable= 3 #constraint= 1234567890123456789\n" ∷ []) ++
+    after_line (refused Count 0) ("1 x1234567890123456789 >= 1 ;" ∷ "1 x12345678901234567890y" ∷ [])
 
 pub all_refused : map (λ (r : Row). reading r.text) bad ≡ map (λ (r : Row). r.says) bad
-unfolding reading go transition more long_fault v_fault c_fault variable_fault expect begin between relation_at_least relation_equal finish ends
+unfolding reading go transition more long_fault v_fault c_fault variable_fault expect begin between relation_at_least relation_equal finish ends behind
 all_refused = refl
 
 -- ---- 23 comes first: 65,537 bytes; of 65,536 the first byte is the fault
@@ -129,11 +131,11 @@ all_refused = refl
 abbrev pub spaces : ℕ → List ℕ
 spaces n = replicate n 32
 
-pub too_many_bytes : reading (spaces 65537) ≡ refused 23 0
+pub too_many_bytes : reading (spaces 65537) ≡ refused TooLong 0
 unfolding reading
 too_many_bytes = refl
 
-pub most_bytes : reading (spaces 65536) ≡ refused 20 0
+pub most_bytes : reading (spaces 65536) ≡ refused Form 0
 unfolding reading go transition expect
 most_bytes = refl
 
@@ -156,7 +158,7 @@ abbrev pub fault_of : Next → ℕ
 fault_of (More s) = 0
 fault_of (Term s) = 0
 fault_of (Passed s) = 0
-fault_of (Fault n) = n
+fault_of (Refused f) = fault_number f
 
 pub sentences_full :
     map fault_of
@@ -173,6 +175,6 @@ entries_full = refl
 -- 21 before 24
 pub variables_full :
     variable_fault (counted 1 4095 0) ∷ variable_fault (counted 1 4096 0) ∷ variable_fault (sizing (counted 1 4096 0) AfterTerm (record { variables = 2; constraints = 1 })) ∷ []
-    ≡ 0 ∷ 24 ∷ 21 ∷ []
+    ≡ None ∷ Some TooMany ∷ Some Count ∷ []
 unfolding variable_fault
 variables_full = refl

@@ -10,6 +10,8 @@ use lib.Seq.{drop-cons}
 use borrow.Author.Tests.{lt-ltb, le-ltb}
 use Rattle.meaning.specs.Meaning.{Entry}
 use Rattle.opb_grammar.specs.declared.State.{State}
+use Rattle.opb_grammar.specs.declared.Fault.{Fault}
+use Rattle.opb_grammar.specs.declared.Fault.TheVariants.{TooLong}
 use Rattle.opb_grammar.specs.declared.Next.{Next}
 use Rattle.opb_grammar.specs.declared.Next.TheVariants as next
 use Rattle.opb_grammar.specs.Grammar.{step, ends, begins}
@@ -52,8 +54,8 @@ module _ {text : List ℕ} {s : State} {i : ℕ} {cs : List Constraint} {es : Li
     pub on_constraint : (t : State) → r ≡ next.Constraint t → Reached text t (i + 1) (cs ++ (constraint_of s es ∷ [])) []
     on_constraint t m = record { goes = goes_to (next.Constraint t) m; held = (keeps (next.Constraint t) m).0 }
 
-    pub on_fault : (n : ℕ) → r ≡ next.Fault n → go text begins [] [] ≡ refused n (length cs)
-    on_fault n m = goes_to (next.Fault n) m
+    pub on_fault : (f : Fault) → r ≡ next.Refused f → go text begins [] [] ≡ refused f (length cs)
+    on_fault f m = goes_to (next.Refused f) m
 
   pub at_end : length text ≤ i → go text begins [] [] ≡ closing s cs (ends s.phase s)
   unfolding go
@@ -61,7 +63,7 @@ module _ {text : List ℕ} {s : State} {i : ℕ} {cs : List Constraint} {es : Li
 
 -- ---- the whole text
 
-pub too_long : (text : List ℕ) → 65536 < length text → reading text ≡ refused 23 0
+pub too_long : (text : List ℕ) → 65536 < length text → reading text ≡ refused TooLong 0
 unfolding reading
 too_long text h = rw (lt-ltb 65536 (length text) h)
 

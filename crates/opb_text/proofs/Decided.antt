@@ -2,20 +2,24 @@
 use mathlib.Core.Path.{◌≡◌, refl, sym, ap, subst, ◌∙◌}
 use mathlib.Core.Bool.{Bool, true, false, cond}
 use mathlib.Core.List.{List, [], ◌∷◌, ◌++◌}
-use Prim.Native.Nat.{ℕ, zero, suc, ◌+◌, ◌≤◌, ◌<◌}
+use Prim.Native.Nat.{ℕ, suc, ◌+◌, ◌≤◌, ◌<◌}
 use native.Mathlib.Omega.{arith}
 use lib.ListN.{length, get_or, length-append}
-use lib.Dec.{eqb, ltb}
-use borrow.Author.Tests.{ne_eqb}
+use lib.Dec.{eqb}
 use Rattle.meaning.specs.Meaning.{Entry}
 use Rattle.opb_grammar.specs.declared.State.{State}
+use Rattle.std.specs.Prelude.{Option, Some, None, Result, Err}
+use Rattle.opb_grammar.specs.declared.Fault.{Fault}
+use Rattle.opb_grammar.specs.declared.Fault.TheVariants.{Count, TooLong}
 use Rattle.opb_grammar.specs.declared.Next.{Next}
 use Rattle.opb_grammar.specs.declared.Next.TheVariants as next
 use Rattle.opb_grammar.specs.Grammar.{step, ends, begins}
 use Rattle.opb_bytes.specs.Inner.States.{fixed, StateSound}
 use Rattle.opb_text.specs.declared.Read.{Read}
-use Rattle.opb_text.specs.Text.{Constraint, taken, refused, term_of, constraint_of, closing, reading, rows_from, all_entries, nothing_read, stored, read_of}
-use Rattle.opb_text.specs.Inner.States.{answer_at}
+use Rattle.opb_text.specs.declared.Refusal.{Refusal}
+use Rattle.opb_text.specs.declared.Refusal.TheVariants as refusal
+use Rattle.opb_text.specs.Text.{Constraint, taken, refused, term_of, constraint_of, closing, reading, rows_from, all_entries, stored, read_of}
+use Rattle.opb_text.specs.Inner.States.{counted, answer_to, answer_at}
 use Rattle.opb_text.proofs.Totals.{all_rows, all_row_entries}
 use Rattle.opb_text.proofs.Keeps.{About, outside, Tracks, Held}
 use Rattle.opb_text.proofs.Limits.{may_end}
@@ -24,14 +28,8 @@ use Rattle.opb_text.proofs.Course.{Reached, reached_first, sound, on_more, on_te
 -- ---- the end
 
 module _ (sentences entries : ℕ) (s : State) (cs : List Constraint) where
-  -- with the counts in place of the rows'
-  abbrev counted : Read
-  counted =
-      cond (ltb sentences s.counts.sentences) (nothing_read 18 s.counts.sentences)
-      (cond (ltb entries s.counts.entries) (nothing_read 18 s.counts.entries)
-      (record { code = 0; value = 0; variables = s.sizes.variables; constraints = length cs; sentences = s.counts.sentences; entries = s.counts.entries }))
-
-  stored_is : (n : ℕ) → Tracks outside (fixed s.phase) s cs n → stored sentences entries s.sizes.variables (length cs) (rows_from (suc s.sizes.variables) cs) ≡ counted
+  stored_is : (n : ℕ) → Tracks outside (fixed s.phase) s cs n →
+      stored sentences entries s.sizes.variables (length cs) (rows_from (suc s.sizes.variables) cs) ≡ counted sentences entries s (length cs)
   stored_is n w =
       let e : length (rows_from (suc s.sizes.variables) cs) ≡ s.counts.sentences = omega (arith, all_rows (suc s.sizes.variables) cs) in
       let f : length (all_entries (rows_from (suc s.sizes.variables) cs)) ≡ s.counts.entries =
@@ -40,16 +38,16 @@ module _ (sentences entries : ℕ) (s : State) (cs : List Constraint) where
 
   complete_is :
       (n : ℕ) → Tracks outside (fixed s.phase) s cs n → (all : Bool) →
-      read_of sentences entries (cond all (taken s.sizes.variables cs) (refused 21 (length cs))) ≡ cond all counted (nothing_read 21 (length cs))
+      read_of sentences entries (cond all (taken s.sizes.variables cs) (refused Count (length cs)))
+      ≡ cond all (counted sentences entries s (length cs)) (Err (refusal.Text Count (length cs)))
   complete_is n w true = stored_is n w
   complete_is n w false = refl
 
   closing_is :
-      (n : ℕ) (code : ℕ) → (code ≡ 0 → Tracks outside (fixed s.phase) s cs n) →
-      read_of sentences entries (closing s cs code)
-      ≡ cond (eqb code 0) (cond (eqb (length cs) s.sizes.constraints) counted (nothing_read 21 (length cs))) (nothing_read code (length cs))
-  closing_is n zero w = complete_is n (w refl) (eqb (length cs) s.sizes.constraints)
-  closing_is n (suc code) w = rw (ne_eqb (suc code) 0 (λ e. omega arith))
+      (n : ℕ) (f : Option Fault) → (f ≡ None → Tracks outside (fixed s.phase) s cs n) →
+      read_of sentences entries (closing s cs f) ≡ answer_to sentences entries s (length cs) f
+  closing_is n None w = complete_is n (w refl) (eqb (length cs) s.sizes.constraints)
+  closing_is n (Some f) w = refl
 
   answer_is : (es : List Entry) → Held s cs es → read_of sentences entries (closing s cs (ends s.phase s)) ≡ answer_at sentences entries s (length cs)
   unfolding answer_at
@@ -58,6 +56,9 @@ module _ (sentences entries : ℕ) (s : State) (cs : List Constraint) where
       (λ e. subst (λ (a : About). Tracks a (fixed s.phase) s cs (length es)) (may_end s.phase s e) w)
 
 -- ---- the loop: `complete` constraints are read
+
+abbrev the_refusal : Fault → ℕ → Result Read Refusal
+the_refusal f k = Err (refusal.Text f k)
 
 pub record Sofar (text : List ℕ) (s : State) (complete i : ℕ) : Type 0 where
   pub cs : List Constraint
@@ -101,11 +102,11 @@ module _ {text : List ℕ} {s : State} {k i : ℕ} (so : Sofar text s k i) where
           short = so.short;
         }
 
-    pub fault : (sentences entries n : ℕ) → r ≡ next.Fault n → nothing_read n k ≡ read_of sentences entries (reading text)
-    fault sentences entries n m =
+    pub fault : (sentences entries : ℕ) (f : Fault) → r ≡ next.Refused f → Err (refusal.Text f k) ≡ read_of sentences entries (reading text)
+    fault sentences entries f m =
         sym
-        (ap (read_of sentences entries) (not_too_long text so.short ∙ on_fault so.reached h q n m)
-        ∙ ap (nothing_read n) so.number)
+        (ap (read_of sentences entries) (not_too_long text so.short ∙ on_fault so.reached h q f m)
+        ∙ ap (λ (n : ℕ). the_refusal f n) so.number)
 
   pub end : (sentences entries : ℕ) → length text ≤ i → answer_at sentences entries s k ≡ read_of sentences entries (reading text)
   end sentences entries h =
@@ -114,5 +115,5 @@ module _ {text : List ℕ} {s : State} {k i : ℕ} (so : Sofar text s k i) where
       ∙ answer_is sentences entries s so.cs so.es so.reached.held
       ∙ ap (answer_at sentences entries s) so.number)
 
-pub long_answer : (text : List ℕ) (sentences entries : ℕ) → 65536 < length text → nothing_read 23 0 ≡ read_of sentences entries (reading text)
+pub long_answer : (text : List ℕ) (sentences entries : ℕ) → 65536 < length text → Err (refusal.Text TooLong 0) ≡ read_of sentences entries (reading text)
 long_answer text sentences entries h = sym (ap (read_of sentences entries) (too_long text h))

@@ -3,7 +3,7 @@
 use mathlib.Core.Path.{◌≡◌, refl, sym, ap, subst, ◌∙◌}
 use mathlib.Core.Bool.{Bool, true, false, cond}
 use mathlib.Core.List.{List, [], ◌∷◌, ◌++◌}
-use Prim.Native.Nat.{ℕ, zero, suc, ◌+◌, ◌≤◌, ◌<◌, min}
+use Prim.Native.Nat.{ℕ, suc, ◌+◌, ◌≤◌, ◌<◌, min}
 use native.Mathlib.Omega.{arith}
 use native.Mathlib.Nat.{min-le_left, min-le_right}
 use lib.ListN.{length, get_or, set, length-append, length-set, drop}
@@ -15,18 +15,22 @@ use Rattle.columns.specs.Columns.{Columns, seven_columns}
 use Rattle.columns.specs.Indexed.{sizes}
 use Rattle.columns.specs.declared.Sizes.{Sizes}
 use Rattle.opb_grammar.specs.declared.State.{State}
+use Rattle.std.specs.Prelude.{Option, Some, None, Ok, Err}
+use Rattle.opb_grammar.specs.declared.Fault.{Fault}
+use Rattle.opb_grammar.specs.declared.Fault.TheVariants.{Count, TooLong}
 use Rattle.opb_grammar.specs.declared.Next.{Next}
 use Rattle.opb_grammar.specs.declared.Next.TheVariants as next
 use Rattle.opb_grammar.specs.Grammar.{bytes_limit, step, ends, begins}
 use Rattle.opb_bytes.specs.Inner.States.{fixed, StateSound}
 use Rattle.opb_text.specs.declared.Read.{Read}
-use Rattle.opb_text.specs.Text.{Constraint, Reading, taken, refused, term_of, constraint_of, closing, go, reading, rows_from, all_entries, columns_of, nothing_read, read_of, over_all, result_of, sentence_room, entry_room, Reads}
+use Rattle.opb_text.specs.declared.Refusal.TheVariants as refusal
+use Rattle.opb_text.specs.Text.{Constraint, Reading, taken, refused, term_of, constraint_of, closing, go, reading, rows_from, all_entries, columns_of, read_of, over_all, result_of, sentence_room, entry_room, Reads}
 use Rattle.opb_rows.specs.Signed.{signed_of}
 use Rattle.opb_rows.specs.Inner.Rows.{with_rows, RowsRoom}
 use Rattle.opb_text.specs.Inner.States.{Decided}
 use Rattle.opb_text.proofs.Totals.{again, sentences_of, entries_of, constraints_few, all_rows, all_row_entries}
 use Rattle.opb_text.proofs.Keeps.{About, outside, Tracks}
-use Rattle.opb_text.proofs.Limits.{Taken, Leads, may_end, go_leads, limits, numbered}
+use Rattle.opb_text.proofs.Limits.{Taken, Leads, may_end, go_leads, limits}
 use Rattle.opb_text.proofs.Course.{Reached, reached_first, sound, keeps, on_more, on_term, on_constraint, on_fault, at_end}
 use Rattle.opb_text.proofs.Fronts.{same_sizes, so_far, none_so_far, all_so_far, rows_long, constraint_put, term_put}
 
@@ -41,54 +45,49 @@ pub record Known (text : List ℕ) (old : Columns) (first : ℕ) : Type 0 where
   pub sentences : sentences_of all ≤ sentence_room old
   pub entries : entries_of all ≤ entry_room old
 
--- an answer 0 came past the tests of the room
+-- an answer came past the tests of the room
 room_told :
-    (m n l k : ℕ) (good : Read) (few less : Bool) → few ≡ ltb m l → less ≡ ltb n k → (r : Read) →
-    r ≡ cond few (nothing_read 18 l) (cond less (nothing_read 18 k) good) → r.code ≡ 0 → (l ≤ m) × (k ≤ n) × (r ≡ good)
-room_told m n l k good true less e f r q h = let z : ◌≡◌ {A = ℕ} 18 0 = sym (ap (λ (x : Read). x.code) q) ∙ h in let b : ⊥ = omega arith in absurd b
-room_told m n l k good false true e f r q h = let z : ◌≡◌ {A = ℕ} 18 0 = sym (ap (λ (x : Read). x.code) q) ∙ h in let b : ⊥ = omega arith in absurd b
-room_told m n l k good false false e f r q h = (ltb-false m l (sym e), ltb-false n k (sym f), q)
+    (m n l k : ℕ) (good r : Read) (few less : Bool) → few ≡ ltb m l → less ≡ ltb n k →
+    Ok r ≡ cond few (Err (refusal.Columns l)) (cond less (Err (refusal.Columns k)) (Ok good)) → (l ≤ m) × (k ≤ n) × (r ≡ good)
+room_told m n l k good r true less e f q = let b : ⊥ = cc in absurd b
+room_told m n l k good r false true e f q = let b : ⊥ = cc in absurd b
+room_told m n l k good r false false e f q = (ltb-false m l (sym e), ltb-false n k (sym f), cc)
 
-known_case :
-    (text : List ℕ) (old : Columns) (r : Read) (x : Reading) → reading text ≡ x → r ≡ read_of (sentence_room old) (entry_room old) x → r.code ≡ 0
-    → Known text old (r.variables + 1)
-known_case text old r (taken v cs) e q h =
-    let g = room_told (sentence_room old) (entry_room old) (length (rows_from (suc v) cs)) (length (all_entries (rows_from (suc v) cs))) _ _ _ refl refl r q h in
-    record {
-      variables = v;
-      all = cs;
-      is_read = e;
-      first_head = omega (arith, ap (λ (y : Read). y.variables) g.2);
-      sentences = omega (arith, g.0, all_rows (suc v) cs);
-      entries = omega (arith, g.1, all_row_entries (suc v) cs);
-    }
-known_case text old r (refused n k) e q h = absurd (numbered text n k e (sym (ap (λ (y : Read). y.code) q) ∙ h))
-
-pub known : (text : List ℕ) (old : Columns) (r : Read) → Decided text old r → Known text old (r.variables + 1)
-known text old r d = known_case text old r (reading text) refl d.answer d.taken
-
--- an answer 0 keeps to the room and to the limits
+-- it keeps to the room and to the limits
 pub record Fits (old : Columns) (r : Read) : Type 0 where
   pub sentences : r.sentences ≤ sentence_room old
   pub entries : r.entries ≤ entry_room old
   pub atoms : r.variables + r.constraints ≤ 1024
 
-fits_case :
-    (text : List ℕ) (old : Columns) (r : Read) (x : Reading) → reading text ≡ x → r ≡ read_of (sentence_room old) (entry_room old) x → r.code ≡ 0 → Fits old r
-fits_case text old r (taken v cs) e q h =
-    let g = room_told (sentence_room old) (entry_room old) (length (rows_from (suc v) cs)) (length (all_entries (rows_from (suc v) cs))) _ _ _ refl refl r q h in
-    record {
-      sentences = omega (arith, g.0, ap (λ (y : Read). y.sentences) g.2);
-      entries = omega (arith, g.1, ap (λ (y : Read). y.entries) g.2);
-      atoms = omega (arith, (limits text v cs e).atoms, ap (λ (y : Read). y.variables) g.2, ap (λ (y : Read). y.constraints) g.2);
-    }
-fits_case text old r (refused n k) e q h = absurd (numbered text n k e (sym (ap (λ (y : Read). y.code) q) ∙ h))
+module _ (text : List ℕ) (old : Columns) (r : Read) where
+  answer_known : (x : Reading) → reading text ≡ x → Ok r ≡ read_of (sentence_room old) (entry_room old) x → Known text old (r.variables + 1) × Fits old r
+  answer_known (taken v cs) e q =
+      let xs = rows_from (suc v) cs in
+      let g = room_told (sentence_room old) (entry_room old) (length xs) (length (all_entries xs)) _ r _ _ refl refl q in (
+        record {
+          variables = v;
+          all = cs;
+          is_read = e;
+          first_head = omega (arith, ap (λ (y : Read). y.variables) g.2);
+          sentences = omega (arith, g.0, all_rows (suc v) cs);
+          entries = omega (arith, g.1, all_row_entries (suc v) cs);
+        },
+        record {
+          sentences = omega (arith, g.0, ap (λ (y : Read). y.sentences) g.2);
+          entries = omega (arith, g.1, ap (λ (y : Read). y.entries) g.2);
+          atoms = omega (arith, (limits text v cs e).atoms, ap (λ (y : Read). y.variables) g.2, ap (λ (y : Read). y.constraints) g.2);
+        },
+      )
+  answer_known (refused f k) e q = let b : ⊥ = cc in absurd b
 
-pub answer_fits : {text : List ℕ} {old new : Columns} {r : Read} → Reads text old new r → r.code ≡ 0 → Fits old r
-answer_fits {text} {old} {new} {r} h z = fits_case text old r (reading text) refl h.answer z
+  pub known : Decided text old r → Known text old (r.variables + 1)
+  known d = (answer_known (reading text) refl d.answer).0
 
-went : (text : List ℕ) (v : ℕ) (cs : List Constraint) (long : Bool) → cond long (refused 23 0) (go text begins [] []) ≡ taken v cs → go text begins [] [] ≡ taken v cs
-went text v cs true e = let z : ◌≡◌ {A = ℕ} 0 1 = cc in let b : ⊥ = omega arith in absurd b
+  pub answer_fits : {new : Columns} → Reads text old new (Ok r) → Fits old r
+  answer_fits h = (answer_known (reading text) refl h.answer).1
+
+went : (text : List ℕ) (v : ℕ) (cs : List Constraint) (long : Bool) → cond long (refused TooLong 0) (go text begins [] []) ≡ taken v cs → go text begins [] [] ≡ taken v cs
+went text v cs true e = cc
 went text v cs false e = e
 
 gone : (text : List ℕ) (v : ℕ) (cs : List Constraint) → reading text ≡ taken v cs → go text begins [] [] ≡ taken v cs
@@ -134,13 +133,13 @@ copies_fit false e t = omega arith
 -- ---- the end of a text that is taken
 
 complete_case :
-    (s : State) (cs all : List Constraint) (v : ℕ) (complete : Bool) → cond complete (taken s.sizes.variables cs) (refused 21 (length cs)) ≡ taken v all → cs ≡ all
+    (s : State) (cs all : List Constraint) (v : ℕ) (complete : Bool) → cond complete (taken s.sizes.variables cs) (refused Count (length cs)) ≡ taken v all → cs ≡ all
 complete_case s cs all v true e = cc
-complete_case s cs all v false e = let z : ◌≡◌ {A = ℕ} 0 1 = cc in let b : ⊥ = omega arith in absurd b
+complete_case s cs all v false e = cc
 
-closed : (s : State) (cs all : List Constraint) (v code : ℕ) → closing s cs code ≡ taken v all → (code ≡ 0) × (cs ≡ all)
-closed s cs all v zero e = (refl, complete_case s cs all v (eqb (length cs) s.sizes.constraints) e)
-closed s cs all v (suc n) e = let z : ◌≡◌ {A = ℕ} 0 1 = cc in let b : ⊥ = omega arith in absurd b
+closed : (s : State) (cs all : List Constraint) (v : ℕ) (f : Option Fault) → closing s cs f ≡ taken v all → (f ≡ None) × (cs ≡ all)
+closed s cs all v None e = (refl, complete_case s cs all v (eqb (length cs) s.sizes.constraints) e)
+closed s cs all v (Some f) e = let b : ⊥ = cc in absurd b
 
 empty : (es : List Entry) → length es ≤ 0 → es ≡ []
 empty [] h = refl
@@ -294,11 +293,10 @@ module _ {text : List ℕ} {old : Columns} {f : ℕ} {h k d n : List ℕ} {b v l
           long = ap sizes e ∙ rows_long s head (seven_columns h k d b n v l) ∙ so.long;
         }
 
-    pub no_fault : (c : ℕ) → x ≡ next.Fault c → {A : Type 0} → A
+    pub no_fault : (c : Fault) → x ≡ next.Refused c → {A : Type 0} → A
     no_fault c m =
         let e : refused c (length so.cs) ≡ taken so.told.variables so.told.all = sym (on_fault so.reached p q c m) ∙ goes_to_all in
-        let z : ◌≡◌ {A = ℕ} 0 1 = cc in
-        let b : ⊥ = omega arith in
+        let b : ⊥ = cc in
         absurd b
 
   pub end : length text ≤ i → seven_columns h k d b n v l ≡ result_of (reading text) old

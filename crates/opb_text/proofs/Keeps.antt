@@ -7,16 +7,21 @@ use native.Mathlib.Omega.{arith}
 use native.Mathlib.Nat.{min-le_right}
 use lib.Dec.{leb, eqb}
 use lib.ListN.{length, get_or, length-append}
-use borrow.Author.Tests.{leb-true, eqb-true, eqb-false}
+use borrow.Author.Tests.{leb-true, eqb-false}
 use Rattle.meaning.specs.Meaning.{Entry}
 use Rattle.opb_grammar.specs.declared.Phase.{Phase}
 use Rattle.opb_grammar.specs.declared.Phase.TheVariants.{Opening, BeforeV, InV, Middle, BeforeC, InC, AfterReturn, LineStart, Between, Comment, WeightSign, InWeight, BeforeX, BeforeVariable, InVariable, AfterTerm, AfterGreater, AfterRelation, BeforeBound, BoundSign, InBound, AfterBound}
 use Rattle.opb_grammar.specs.declared.Number.{Number}
 use Rattle.opb_grammar.specs.declared.State.{State}
+use Rattle.std.specs.Prelude.{Option, Some, None}
+use Rattle.opb_grammar.specs.declared.Fault.{Fault}
+use Rattle.opb_grammar.specs.declared.Fault.TheVariants.{Form, Count, TooMany}
 use Rattle.opb_grammar.specs.declared.Next.{Next}
 use Rattle.opb_grammar.specs.declared.Next.TheVariants as next
 use Rattle.opb_grammar.specs.Grammar.{at, numbering, sizing, signed, more, long_fault, v_fault, c_fault, variable_fault, behind, opening, middle, expect, digits, begin, between, term, relation_at_least, relation_equal, finish, transition, step, begins}
-use Rattle.opb_classes.specs.Bytes.{class_of}
+use Rattle.opb_classes.specs.declared.Class.{Class}
+use Rattle.opb_classes.specs.declared.Class.TheVariants.{Blank, Digit, Plus, Minus, Star, Ex, Greater, Equal, Semicolon}
+use Rattle.opb_classes.specs.Bytes.{class_of, is}
 use Rattle.opb_bytes.specs.Inner.States.{fixed}
 use Rattle.opb_grammar.proofs.Sums.{entry_left}
 use Rattle.opb_text.specs.Text.{Constraint, term_of, constraint_of}
@@ -91,28 +96,28 @@ pub record Grows (s t : State) : Type 0 where
   pub entries : s.counts.entries ≤ t.counts.entries
   pub sentences : s.counts.sentences ≤ t.counts.sentences
 
--- what the next state keeps, and what a term or a constraint that has been passed says of the state before; a fault has a number
+-- what the next state keeps, and what a term or a constraint that has been passed says of the state before
 abbrev pub Kept : State → List Constraint → List Entry → Next → Type 0
 Kept s cs es (next.More t) = Held t cs es × Grows s t
 Kept s cs es (next.Term t) = Held t cs (es ++ (term_of s ∷ [])) × Grows s t × Tracks inside 14 s cs (length es)
 Kept s cs es (next.Constraint t) = Held t (cs ++ (constraint_of s es ∷ [])) [] × Grows s t × Tracks behind_relation 14 s cs (length es)
-Kept s cs es (next.Fault n) = n ≡ 0 → ⊥
+Kept s cs es (next.Refused f) = Unit {0}
 
 -- ---- numbers without a fault
 
-number_case : (zero : Bool) (n f : ℕ) → zero ≡ eqb n 0 → cond zero 21 f ≡ 0 → 1 ≤ n
-number_case true n f e h = omega arith
+number_case : (zero : Bool) (n : ℕ) (f : Option Fault) → zero ≡ eqb n 0 → cond zero (Some Count) f ≡ None → 1 ≤ n
+number_case true n f e h = cc
 number_case false n f e h = let g = eqb-false n 0 (sym e) in omega (arith, g)
 
-v_known : (s : State) → v_fault s ≡ 0 → 1 ≤ s.number.size
+v_known : (s : State) → v_fault s ≡ None → 1 ≤ s.number.size
 unfolding v_fault
 v_known s h = number_case (eqb s.number.size 0) s.number.size (long_fault s) refl h
 
-sizes_case : (within : Bool) (n f : ℕ) → within ≡ leb n 1024 → cond within f 21 ≡ 0 → n ≤ 1024
+sizes_case : (within : Bool) (n : ℕ) (f : Option Fault) → within ≡ leb n 1024 → cond within f (Some Count) ≡ None → n ≤ 1024
 sizes_case true n f e h = leb-true n 1024 (sym e)
-sizes_case false n f e h = omega arith
+sizes_case false n f e h = cc
 
-c_known : (s : State) → c_fault s ≡ 0 → s.sizes.variables + s.number.size ≤ 1024
+c_known : (s : State) → c_fault s ≡ None → s.sizes.variables + s.number.size ≤ 1024
 unfolding c_fault
 c_known s h = sizes_case (leb (s.sizes.variables + s.number.size) 1024) (s.sizes.variables + s.number.size) (long_fault s) refl h
 
@@ -134,14 +139,16 @@ module _ (u : State) (cs : List Constraint) (es : List Entry) where
   abbrev Fine : Next → Type 0
   Fine n = Kept u cs es n
 
-  wrong : Fine (next.Fault 20)
-  wrong e = omega arith
+  wrong : Fine (next.Refused Form)
+  wrong = tt
 
-  full : Fine (next.Fault 24)
-  full e = omega arith
+  full : Fine (next.Refused TooMany)
+  full = tt
 
-  behind_kept : (f : ℕ) (n : Next) → (f ≡ 0 → Fine n) → Fine (behind f n)
-  behind_kept f n h = by Fine (eqb f 0) (λ t. h (eqb-true f 0 t)) (λ t. eqb-false f 0 t)
+  behind_kept : (f : Option Fault) (n : Next) → (f ≡ None → Fine n) → Fine (behind f n)
+  unfolding behind
+  behind_kept None n h = h refl
+  behind_kept (Some f) n h = tt
 
   module _ (m : ℕ) (s : State) (g : Grows u s) where
     at_kept : (p : Phase) → m ≤ fixed p → Tracks (about p) m s cs (length es) → Fine (next.More (at s p))
@@ -150,25 +157,25 @@ module _ (u : State) (cs : List Constraint) (es : List Entry) where
     number_kept : (p : Phase) (x : Number) → x.size ≤ 1000000000000000000 → m ≤ fixed p → Tracks (about p) m s cs (length es) → Fine (next.More (numbering s p x))
     number_kept p x f l w = omega arith
 
-    digits_kept : (p : Phase) (b k : ℕ) → m ≤ fixed p → Tracks (about p) m s cs (length es) → Fine (digits s p b k)
-    digits_kept p b k l w = either Fine (eqb k 1) (number_kept p (more s.number b) (more_fits s.number b) l w) wrong
+    digits_kept : (p : Phase) (b : ℕ) (k : Class) → m ≤ fixed p → Tracks (about p) m s cs (length es) → Fine (digits s p b k)
+    digits_kept p b k l w = either Fine (is k Digit) (number_kept p (more s.number b) (more_fits s.number b) l w) wrong
 
     begin_kept :
-        (p q : Phase) (b k : ℕ) → m ≤ fixed p → m ≤ fixed q → Tracks (about p) m s cs (length es) → Tracks (about q) m s cs (length es) → Fine (begin p q s b k)
+        (p q : Phase) (b : ℕ) (k : Class) → m ≤ fixed p → m ≤ fixed q → Tracks (about p) m s cs (length es) → Tracks (about q) m s cs (length es) → Fine (begin p q s b k)
     unfolding begin
     begin_kept p q b k l l' w w' =
-        either Fine (eqb k 1) (number_kept q (more (signed false) b) (more_fits (signed false) b) l' w')
-        (either Fine (eqb k 2) (number_kept p (signed false) (omega arith) l w)
-        (either Fine (eqb k 3) (number_kept p (signed true) (omega arith) l w) wrong))
+        either Fine (is k Digit) (number_kept q (more (signed false) b) (more_fits (signed false) b) l' w')
+        (either Fine (is k Plus) (number_kept p (signed false) (omega arith) l w)
+        (either Fine (is k Minus) (number_kept p (signed true) (omega arith) l w) wrong))
 
     enter : Tracks outside m s cs (length es) → Tracks inside m s cs (length es)
     enter w = omega arith
 
-    between_kept : (b k : ℕ) → m ≤ 14 → Tracks outside m s cs (length es) → Fine (between s b k)
+    between_kept : (b : ℕ) (k : Class) → m ≤ 14 → Tracks outside m s cs (length es) → Fine (between s b k)
     unfolding between
     between_kept b k l w =
         either Fine (eqb b 10) (at_kept LineStart l w)
-        (either Fine (eqb k 0) (at_kept Between l w) (begin_kept WeightSign InWeight b k l l (enter w) (enter w)))
+        (either Fine (is k Blank) (at_kept Between l w) (begin_kept WeightSign InWeight b k l l (enter w) (enter w)))
 
     expect_kept :
         (text : List ℕ) (p q : Phase) (b : ℕ) → m ≡ length text → length text ≡ fixed p → m ≤ fixed q → Tracks (about p) m s cs (length es) →
@@ -195,19 +202,19 @@ module _ (u : State) (cs : List Constraint) (es : List Entry) where
         (λ v. full))
         (λ t. full)
 
-  finish_kept : (k : ℕ) → Tracks behind_relation 14 u cs (length es) → Fine (finish u k)
+  finish_kept : (k : Class) → Tracks behind_relation 14 u cs (length es) → Fine (finish u k)
   unfolding finish
   finish_kept k w =
       let g : Grows u u = omega arith in
-      either Fine (eqb k 0) (at_kept 14 u g AfterBound (omega arith) w)
-      (either Fine (eqb k 8) (omega (arith, sentences_more cs (constraint_of u es), entries_more cs (constraint_of u es))) wrong)
+      either Fine (is k Blank) (at_kept 14 u g AfterBound (omega arith) w)
+      (either Fine (is k Semicolon) (omega (arith, sentences_more cs (constraint_of u es), entries_more cs (constraint_of u es))) wrong)
 
-  term_kept : variable_fault u ≡ 0 → Tracks inside 14 u cs (length es) → Fine (next.Term (term u))
+  term_kept : variable_fault u ≡ None → Tracks inside 14 u cs (length es) → Fine (next.Term (term u))
   term_kept f w = omega (arith, entry_left u f, length-append es (term_of u ∷ []))
 
 -- ---- the automaton
 
-module _ (s : State) (cs : List Constraint) (es : List Entry) (b k : ℕ) where
+module _ (s : State) (cs : List Constraint) (es : List Entry) (b : ℕ) (k : Class) where
   same : Grows s s
   same = omega arith
 
@@ -216,7 +223,7 @@ module _ (s : State) (cs : List Constraint) (es : List Entry) (b k : ℕ) where
   kept Opening w = expect_kept s cs es 13 s same opening Opening BeforeV b refl refl (omega arith) w w
   kept BeforeV w = digits_kept s cs es 14 s same InV b k (omega arith) w
   kept InV w =
-      either (Kept s cs es) (eqb k 1) (digits_kept s cs es 14 s same InV b k (omega arith) w)
+      either (Kept s cs es) (is k Digit) (digits_kept s cs es 14 s same InV b k (omega arith) w)
       (behind_kept s cs es (v_fault s) _ (λ f.
       let h = v_known s f in
       expect_kept s cs es 14 (sizing s Middle (record { variables = s.number.size; constraints = 0 })) (omega arith) middle Middle BeforeC b refl refl
@@ -224,40 +231,40 @@ module _ (s : State) (cs : List Constraint) (es : List Entry) (b k : ℕ) where
   kept Middle w = expect_kept s cs es 14 s same middle Middle BeforeC b refl refl (omega arith) w w
   kept BeforeC w = digits_kept s cs es 14 s same InC b k (omega arith) w
   kept InC w =
-      either (Kept s cs es) (eqb k 1) (digits_kept s cs es 14 s same InC b k (omega arith) w)
+      either (Kept s cs es) (is k Digit) (digits_kept s cs es 14 s same InC b k (omega arith) w)
       (behind_kept s cs es (c_fault s) _ (λ f.
       let h = c_known s f in
       either (Kept s cs es) (eqb b 10) (omega (arith, h)) (either (Kept s cs es) (eqb b 13) (omega (arith, h)) (wrong s cs es))))
   kept AfterReturn w = either (Kept s cs es) (eqb b 10) (at_kept s cs es 14 s same LineStart (omega arith) w) (wrong s cs es)
   kept LineStart w =
-      either (Kept s cs es) (eqb k 4) (at_kept s cs es 14 s same Comment (omega arith) w) (between_kept s cs es 14 s same b k (omega arith) w)
+      either (Kept s cs es) (is k Star) (at_kept s cs es 14 s same Comment (omega arith) w) (between_kept s cs es 14 s same b k (omega arith) w)
   kept Between w = between_kept s cs es 14 s same b k (omega arith) w
   kept Comment w =
       either (Kept s cs es) (eqb b 10) (at_kept s cs es 14 s same LineStart (omega arith) w) (at_kept s cs es 14 s same Comment (omega arith) w)
   kept WeightSign w = digits_kept s cs es 14 s same InWeight b k (omega arith) w
   kept InWeight w =
-      either (Kept s cs es) (eqb k 1) (digits_kept s cs es 14 s same InWeight b k (omega arith) w)
-      (behind_kept s cs es (long_fault s) _ (λ f. either (Kept s cs es) (eqb k 0) (omega arith) (wrong s cs es)))
+      either (Kept s cs es) (is k Digit) (digits_kept s cs es 14 s same InWeight b k (omega arith) w)
+      (behind_kept s cs es (long_fault s) _ (λ f. either (Kept s cs es) (is k Blank) (omega arith) (wrong s cs es)))
   kept BeforeX w =
-      either (Kept s cs es) (eqb k 0) (at_kept s cs es 14 s same BeforeX (omega arith) w)
-      (either (Kept s cs es) (eqb k 5) (number_kept s cs es 14 s same BeforeVariable (signed false) (omega arith) (omega arith) w) (wrong s cs es))
+      either (Kept s cs es) (is k Blank) (at_kept s cs es 14 s same BeforeX (omega arith) w)
+      (either (Kept s cs es) (is k Ex) (number_kept s cs es 14 s same BeforeVariable (signed false) (omega arith) (omega arith) w) (wrong s cs es))
   kept BeforeVariable w = either (Kept s cs es) (eqb b 48) (wrong s cs es) (digits_kept s cs es 14 s same InVariable b k (omega arith) w)
   kept InVariable w =
-      either (Kept s cs es) (eqb k 1) (digits_kept s cs es 14 s same InVariable b k (omega arith) w)
-      (behind_kept s cs es (variable_fault s) _ (λ f. either (Kept s cs es) (eqb k 0) (term_kept s cs es f w) (wrong s cs es)))
+      either (Kept s cs es) (is k Digit) (digits_kept s cs es 14 s same InVariable b k (omega arith) w)
+      (behind_kept s cs es (variable_fault s) _ (λ f. either (Kept s cs es) (is k Blank) (term_kept s cs es f w) (wrong s cs es)))
   kept AfterTerm w =
-      either (Kept s cs es) (eqb k 0) (at_kept s cs es 14 s same AfterTerm (omega arith) w)
-      (either (Kept s cs es) (eqb k 6) (at_kept s cs es 14 s same AfterGreater (omega arith) w)
-      (either (Kept s cs es) (eqb k 7) (equal_kept s cs es 14 s same (omega arith) w)
+      either (Kept s cs es) (is k Blank) (at_kept s cs es 14 s same AfterTerm (omega arith) w)
+      (either (Kept s cs es) (is k Greater) (at_kept s cs es 14 s same AfterGreater (omega arith) w)
+      (either (Kept s cs es) (is k Equal) (equal_kept s cs es 14 s same (omega arith) w)
       (begin_kept s cs es 14 s same WeightSign InWeight b k (omega arith) (omega arith) w w)))
-  kept AfterGreater w = either (Kept s cs es) (eqb k 7) (at_least_kept s cs es 14 s same (omega arith) w) (wrong s cs es)
-  kept AfterRelation w = either (Kept s cs es) (eqb k 0) (at_kept s cs es 14 s same BeforeBound (omega arith) w) (wrong s cs es)
+  kept AfterGreater w = either (Kept s cs es) (is k Equal) (at_least_kept s cs es 14 s same (omega arith) w) (wrong s cs es)
+  kept AfterRelation w = either (Kept s cs es) (is k Blank) (at_kept s cs es 14 s same BeforeBound (omega arith) w) (wrong s cs es)
   kept BeforeBound w =
-      either (Kept s cs es) (eqb k 0) (at_kept s cs es 14 s same BeforeBound (omega arith) w)
+      either (Kept s cs es) (is k Blank) (at_kept s cs es 14 s same BeforeBound (omega arith) w)
       (begin_kept s cs es 14 s same BoundSign InBound b k (omega arith) (omega arith) w w)
   kept BoundSign w = digits_kept s cs es 14 s same InBound b k (omega arith) w
   kept InBound w =
-      either (Kept s cs es) (eqb k 1) (digits_kept s cs es 14 s same InBound b k (omega arith) w)
+      either (Kept s cs es) (is k Digit) (digits_kept s cs es 14 s same InBound b k (omega arith) w)
       (behind_kept s cs es (long_fault s) _ (λ f. finish_kept s cs es k w))
   kept AfterBound w = finish_kept s cs es k w
 

@@ -1,20 +1,23 @@
--- The limits of what is read: a text that is taken has at most 256 sentences, 4,096 entries and 1,024 atoms, with at least one variable;
--- and a refusal has a number. From any state on the way the counts only grow, up to those of the whole text.
+-- The limits of what is read: a text that is taken has at most 256 sentences, 4,096 entries and 1,024 atoms, with at least one variable.
+-- From any state on the way the counts only grow, up to those of the whole text.
 use mathlib.Core.Path.{◌≡◌, refl, sym, subst}
 use mathlib.Core.Bool.{Bool, true, false, cond}
 use mathlib.Core.List.{List, [], ◌∷◌, ◌++◌}
-use Prim.Native.Nat.{ℕ, zero, suc, ◌+◌, ◌≤◌}
+use Prim.Native.Nat.{ℕ, suc, ◌+◌, ◌≤◌}
 use native.Mathlib.Omega.{arith}
 use lib.ListN.{length}
 use lib.Dec.{eqb, ltb}
-use borrow.Author.Tests.{eqb-true, eqb-false}
+use borrow.Author.Tests.{eqb-true}
 use Rattle.meaning.specs.Meaning.{Entry}
 use Rattle.opb_grammar.specs.declared.Phase.{Phase}
 use Rattle.opb_grammar.specs.declared.Phase.TheVariants.{Opening, BeforeV, InV, Middle, BeforeC, InC, AfterReturn, LineStart, Between, Comment, WeightSign, InWeight, BeforeX, BeforeVariable, InVariable, AfterTerm, AfterGreater, AfterRelation, BeforeBound, BoundSign, InBound, AfterBound}
 use Rattle.opb_grammar.specs.declared.State.{State}
+use Rattle.std.specs.Prelude.{Option, Some, None}
+use Rattle.opb_grammar.specs.declared.Fault.{Fault}
+use Rattle.opb_grammar.specs.declared.Fault.TheVariants.{Count, TooLong}
 use Rattle.opb_grammar.specs.declared.Next.{Next}
 use Rattle.opb_grammar.specs.declared.Next.TheVariants as next
-use Rattle.opb_grammar.specs.Grammar.{bytes_limit, step, cut_off, ends, begins, long_fault, v_fault, c_fault, variable_fault}
+use Rattle.opb_grammar.specs.Grammar.{bytes_limit, step, ends, begins}
 use Rattle.opb_bytes.specs.Inner.States.{fixed}
 use Rattle.opb_text.specs.Text.{Constraint, Reading, taken, refused, term_of, constraint_of, after_byte, closing, go, reading}
 use Rattle.opb_text.specs.Limits.{Limits}
@@ -23,40 +26,30 @@ use Rattle.opb_text.proofs.Keeps.{About, about, outside, Tracks, Held, Grows, Ke
 
 -- ---- the end of the text stands outside constraints
 
-never_zero : (f : ℕ) (zero : Bool) → zero ≡ eqb f 0 → cond zero 20 f ≡ 0 → ⊥
-never_zero f true e h = omega arith
-never_zero f false e h = eqb-false f 0 (sym e) h
-
-cut : {A : Type 0} (f : ℕ) → cut_off f ≡ 0 → A
-cut f h = absurd (never_zero f (eqb f 0) refl h)
-
-fault : {A : Type 0} → ◌≡◌ {A = ℕ} 20 0 → A
-fault h = let b : ⊥ = omega arith in absurd b
-
-pub may_end : (p : Phase) (s : State) → ends p s ≡ 0 → about p ≡ outside
+pub may_end : (p : Phase) (s : State) → ends p s ≡ None → about p ≡ outside
 unfolding ends
-may_end Opening s h = fault h
-may_end BeforeV s h = fault h
-may_end InV s h = cut (v_fault s) h
-may_end Middle s h = fault h
-may_end BeforeC s h = fault h
-may_end InC s h = cut (c_fault s) h
+may_end Opening s h = cc
+may_end BeforeV s h = cc
+may_end InV s h = cc
+may_end Middle s h = cc
+may_end BeforeC s h = cc
+may_end InC s h = cc
 may_end AfterReturn s h = refl
 may_end LineStart s h = refl
 may_end Between s h = refl
 may_end Comment s h = refl
-may_end WeightSign s h = fault h
-may_end InWeight s h = cut (long_fault s) h
-may_end BeforeX s h = fault h
-may_end BeforeVariable s h = fault h
-may_end InVariable s h = cut (variable_fault s) h
-may_end AfterTerm s h = fault h
-may_end AfterGreater s h = fault h
-may_end AfterRelation s h = fault h
-may_end BeforeBound s h = fault h
-may_end BoundSign s h = fault h
-may_end InBound s h = cut (long_fault s) h
-may_end AfterBound s h = fault h
+may_end WeightSign s h = cc
+may_end InWeight s h = cc
+may_end BeforeX s h = cc
+may_end BeforeVariable s h = cc
+may_end InVariable s h = cc
+may_end AfterTerm s h = cc
+may_end AfterGreater s h = cc
+may_end AfterRelation s h = cc
+may_end BeforeBound s h = cc
+may_end BoundSign s h = cc
+may_end InBound s h = cc
+may_end AfterBound s h = cc
 
 -- ---- what the rest of the text leads to
 
@@ -70,23 +63,23 @@ pub record Taken (s : State) (v : ℕ) (cs : List Constraint) : Type 0 where
 
 abbrev pub Leads : State → Reading → Type 0
 Leads s (taken v cs) = Taken s v cs
-Leads s (refused n k) = n ≡ 0 → ⊥
+Leads s (refused f k) = Unit {0}
 
 earlier : (s t : State) (r : Reading) → Grows s t → Leads t r → Leads s r
 earlier s t (taken v cs) g h = omega arith
-earlier s t (refused n k) g h = h
+earlier s t (refused f k) g h = tt
 
 module _ (s : State) (cs : List Constraint) where
   all_there : (complete : Bool) → complete ≡ eqb (length cs) s.sizes.constraints → (n : ℕ) → Tracks outside (fixed s.phase) s cs n →
-      Leads s (cond complete (taken s.sizes.variables cs) (refused 21 (length cs)))
+      Leads s (cond complete (taken s.sizes.variables cs) (refused Count (length cs)))
   all_there true e n w = omega (arith, eqb-true (length cs) s.sizes.constraints (sym e))
-  all_there false e n w = λ h. omega arith
+  all_there false e n w = tt
 
-  closing_leads : (es : List Entry) → Held s cs es → (code : ℕ) → (code ≡ 0 → about s.phase ≡ outside) → Leads s (closing s cs code)
-  closing_leads es w zero h =
+  closing_leads : (es : List Entry) → Held s cs es → (f : Option Fault) → (f ≡ None → about s.phase ≡ outside) → Leads s (closing s cs f)
+  closing_leads es w None h =
       all_there (eqb (length cs) s.sizes.constraints) refl (length es)
       (subst (λ (a : About). Tracks a (fixed s.phase) s cs (length es)) (h refl) w)
-  closing_leads es w (suc n) h = λ e. omega arith
+  closing_leads es w (Some f) h = tt
 
 turn_leads :
     (bs : List ℕ) (s : State) (cs : List Constraint) (es : List Entry) → ((t : State) (ds : List Constraint) (fs : List Entry) → Held t ds fs → Leads t (go bs t ds fs)) →
@@ -96,15 +89,15 @@ turn_leads bs s cs es on (next.Term t) h =
     let fs : List Entry = es ++ (term_of s ∷ []) in earlier s t (go bs t cs fs) h.1 (on t cs fs h.0)
 turn_leads bs s cs es on (next.Constraint t) h =
     let ds : List Constraint = cs ++ (constraint_of s es ∷ []) in earlier s t (go bs t ds []) h.1 (on t ds [] h.0)
-turn_leads bs s cs es on (next.Fault n) h = h
+turn_leads bs s cs es on (next.Refused f) h = tt
 
 pub go_leads : (bs : List ℕ) (s : State) (cs : List Constraint) (es : List Entry) → Held s cs es → Leads s (go bs s cs es)
 unfolding go
 go_leads [] s cs es w = closing_leads s cs es w (ends s.phase s) (may_end s.phase s)
 go_leads (b ∷ bs) s cs es w = turn_leads bs s cs es (λ t ds fs h. go_leads bs t ds fs h) (step s b) (step_kept s cs es b w)
 
-long_leads : (text : List ℕ) (long : Bool) → Leads begins (cond long (refused 23 0) (go text begins [] []))
-long_leads text true = λ e. omega arith
+long_leads : (text : List ℕ) (long : Bool) → Leads begins (cond long (refused TooLong 0) (go text begins [] []))
+long_leads text true = tt
 long_leads text false = go_leads text begins [] [] begins_held
 
 pub reading_leads : (text : List ℕ) → Leads begins (reading text)
@@ -117,6 +110,3 @@ pub limits : (text : List ℕ) (v : ℕ) (cs : List Constraint) → reading text
 limits text v cs q =
     let h : Taken begins v cs = subst (Leads begins) q (reading_leads text) in
     omega (arith, all_rows (suc v) cs, all_row_entries (suc v) cs)
-
-pub numbered : (text : List ℕ) (n k : ℕ) → reading text ≡ refused n k → n ≡ 0 → ⊥
-numbered text n k q = subst (Leads begins) q (reading_leads text)

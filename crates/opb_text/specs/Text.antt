@@ -1,13 +1,17 @@
 -- What an OPB text holds, or the refusal that it gets; and the columns that load is handed for it.
-use Rattle.std.specs.Prelude.{◌≡◌, Bool, cond, List, [], ◌∷◌, ◌++◌, map, ℕ, zero, suc, min, length, drop, ℤ, pos, eqb, ltb}
+use Rattle.std.specs.Prelude.{◌≡◌, Bool, cond, Option, Some, None, Result, Ok, Err, OnOk, OnErr, List, [], ◌∷◌, ◌++◌, map, ℕ, suc, min, length, drop, ℤ, pos, eqb, ltb}
 use Rattle.meaning.specs.Meaning.{Entry}
 use Rattle.columns.specs.Columns.{Columns, seven_columns, Written}
 use Rattle.opb_grammar.specs.declared.State.{State}
 use Rattle.opb_grammar.specs.declared.Next.{Next}
 use Rattle.opb_grammar.specs.declared.Next.TheVariants as next
-use Rattle.opb_grammar.specs.Grammar.{bytes_limit, step, ends, begins}
+use Rattle.opb_grammar.specs.declared.Fault.{Fault}
+use Rattle.opb_grammar.specs.declared.Fault.TheVariants.{Count, TooLong}
+use Rattle.opb_grammar.specs.Grammar.{bytes_limit, fault_number, step, ends, begins}
 use Rattle.opb_rows.specs.Signed.{signed_of}
 use Rattle.opb_text.specs.declared.Read.{Read}
+use Rattle.opb_text.specs.declared.Refusal.{Refusal}
+use Rattle.opb_text.specs.declared.Refusal.TheVariants as refusal
 
 -- ---- what is read
 
@@ -20,7 +24,7 @@ pub record Constraint : Type 0 where
 pub data Reading : Type 0 where
   taken : (variables : ℕ) → List Constraint → Reading
   -- `complete` is the number of constraints complete before the fault
-  refused : (code complete : ℕ) → Reading
+  refused : (fault : Fault) (complete : ℕ) → Reading
 
 -- the term whose variable the state has just read, and the constraint whose right side it has just read
 abbrev pub term_of : State → Entry
@@ -33,12 +37,12 @@ abbrev pub after_byte : State → List Constraint → List Entry → (State → 
 after_byte s cs es on (next.More t) = on t cs es
 after_byte s cs es on (next.Term t) = on t cs (es ++ (term_of s ∷ []))
 after_byte s cs es on (next.Constraint t) = on t (cs ++ (constraint_of s es ∷ [])) []
-after_byte s cs es on (next.Fault n) = refused n (length cs)
+after_byte s cs es on (next.Refused f) = refused f (length cs)
 
 -- the end of the text, where C constraints must be complete
-abbrev pub closing : State → List Constraint → ℕ → Reading
-closing s cs zero = cond (eqb (length cs) s.sizes.constraints) (taken s.sizes.variables cs) (refused 21 (length cs))
-closing s cs (suc n) = refused (suc n) (length cs)
+abbrev pub closing : State → List Constraint → Option Fault → Reading
+closing s cs None = cond (eqb (length cs) s.sizes.constraints) (taken s.sizes.variables cs) (refused Count (length cs))
+closing s cs (Some f) = refused f (length cs)
 
 -- the rest of the text, from a state, with these constraints and these terms of the next read so far
 unfoldable pub go : List ℕ → State → List Constraint → List Entry → Reading
@@ -46,7 +50,7 @@ go [] s cs es = closing s cs (ends s.phase s)
 go (b ∷ bs) s cs es = after_byte s cs es (go bs) (step s b)
 
 unfoldable pub reading : List ℕ → Reading
-reading text = cond (ltb bytes_limit (length text)) (refused 23 0) (go text begins [] [])
+reading text = cond (ltb bytes_limit (length text)) (refused TooLong 0) (go text begins [] [])
 
 -- ---- the sentences: constraint j has head V + j; `=` makes two, lower side first
 
@@ -74,18 +78,24 @@ columns_of xs =
 
 -- ---- the answer, and the lent columns afterwards
 
-abbrev pub nothing_read : ℕ → ℕ → Read
-nothing_read code value = record { code = code; value = value; variables = 0; constraints = 0; sentences = 0; entries = 0 }
+-- document 01's numbers: a fault's with the constraints complete before it, and 18 with the number that has no room
+abbrev pub refusal_number : Refusal → ℕ
+refusal_number (refusal.Text f k) = fault_number f
+refusal_number (refusal.Columns n) = 18
 
--- lent columns with room for so many sentences and entries; 18 comes with the number that has no room, sentences first
-abbrev pub stored : ℕ → ℕ → ℕ → ℕ → List Written → Read
+abbrev pub refusal_value : Refusal → ℕ
+refusal_value (refusal.Text f k) = k
+refusal_value (refusal.Columns n) = n
+
+-- lent columns with room for so many sentences and entries, which are tried in this order
+abbrev pub stored : ℕ → ℕ → ℕ → ℕ → List Written → Result Read Refusal
 stored sentences entries v c xs =
-    cond (ltb sentences (length xs)) (nothing_read 18 (length xs))
-    (cond (ltb entries (length (all_entries xs))) (nothing_read 18 (length (all_entries xs)))
-    (record { code = 0; value = 0; variables = v; constraints = c; sentences = length xs; entries = length (all_entries xs) }))
+    cond (ltb sentences (length xs)) (Err (refusal.Columns (length xs)))
+    (cond (ltb entries (length (all_entries xs))) (Err (refusal.Columns (length (all_entries xs))))
+    (Ok (record { variables = v; constraints = c; sentences = length xs; entries = length (all_entries xs) })))
 
-abbrev pub read_of : ℕ → ℕ → Reading → Read
-read_of sentences entries (refused code k) = nothing_read code k
+abbrev pub read_of : ℕ → ℕ → Reading → Result Read Refusal
+read_of sentences entries (refused f k) = Err (refusal.Text f k)
 read_of sentences entries (taken v cs) = stored sentences entries v (length cs) (rows_from (suc v) cs)
 
 -- a column whose front is the result; the rest keeps its contents
@@ -100,7 +110,7 @@ over_all c old =
 
 -- the columns after the call: a refused text leaves them as they were
 abbrev pub result_of : Reading → Columns → Columns
-result_of (refused code k) old = old
+result_of (refused f k) old = old
 result_of (taken v cs) old = over_all (columns_of (rows_from (suc v) cs)) old
 
 abbrev pub sentence_room : Columns → ℕ
@@ -110,7 +120,7 @@ abbrev pub entry_room : Columns → ℕ
 entry_room c = min (length c.weights) (length c.literals)
 
 -- what reading promises, for every text of bytes and all columns
-pub record Reads (text : List ℕ) (old new : Columns) (r : Read) : Type 0 where
+pub record Reads (text : List ℕ) (old new : Columns) (r : Result Read Refusal) : Type 0 where
   pub answer : r ≡ read_of (sentence_room old) (entry_room old) (reading text)
-  pub kept : ¬ (r.code ≡ 0) → new ≡ old
-  pub filled : r.code ≡ 0 → new ≡ result_of (reading text) old
+  pub kept : OnErr r (new ≡ old)
+  pub filled : OnOk r (new ≡ result_of (reading text) old)

@@ -1,38 +1,39 @@
 -- Each arm of the match puts what it has read.
 use native.Mathlib.Omega.{arith}
-use Rattle.opb_text.proofs.Filled.{few_variables, first, sound_here, few, more, term_room, term, rows_room, constraint, no_fault, end}
+use Rattle.opb_text.proofs.Filled.{few_variables, first, few, more, term_room, term, rows_room, constraint, no_fault, end}
 use Rattle.opb_text.proofs.fill.Goals as goal
+use Rattle.opb_text.proofs.fill.Goals.{in-More, in-Term, in-Constraint}
 
 pub overflow_add-head : goal.overflow_add-head
 overflow_add-head c = omega (arith, few_variables c.requires)
 
-pub loop-i-init : goal.loop-i-init
-loop-i-init c = first c.requires c.start-s.ensures
-
-pub step-requires : goal.step-requires
-step-requires c = sound_here c.loop-i.invariant
-
-pub loop-i-preserved-in-More : goal.loop-i-preserved-in-More
-loop-i-preserved-in-More c = more c.loop-i.invariant c.loop-i-test.true c.step.ensures _ c.in-More.is
+pub loop-b-init : goal.loop-b-init
+loop-b-init c = first c.requires c.start-s.ensures
 
 pub put_term-requires : goal.put_term-requires
-put_term-requires c = term_room c.loop-i.invariant c.loop-i-test.true c.step.ensures _ c.in-Term.is
-
-pub loop-i-preserved-in-Term : goal.loop-i-preserved-in-Term
-loop-i-preserved-in-Term c =
-    term c.loop-i.invariant c.loop-i-test.true c.step.ensures _ c.in-Term.is c.put_term.ensures.weights_after c.put_term.ensures.literals_after
+put_term-requires c = term_room c.loop-b.invariant c.loop-b-test.true c.step.ensures _ c.in-Term.is
 
 pub put_rows-requires : goal.put_rows-requires
-put_rows-requires c = rows_room c.loop-i.invariant c.loop-i-test.true c.step.ensures _ c.in-Constraint.is
+put_rows-requires c = rows_room c.loop-b.invariant c.loop-b-test.true c.step.ensures _ c.in-Constraint.is
 
 pub overflow_add-head-in-Constraint : goal.overflow_add-head-in-Constraint
-overflow_add-head-in-Constraint c = omega (arith, few c.loop-i.invariant)
+overflow_add-head-in-Constraint c = omega (arith, few c.loop-b.invariant)
 
-pub loop-i-preserved : goal.loop-i-preserved
-loop-i-preserved c = constraint c.loop-i.invariant c.loop-i-test.true c.step.ensures _ c.in-Constraint.is c.put_rows.ensures
+pub loop-b-preserved : goal.loop-b-preserved
+loop-b-preserved c =
+    let i = c.loop-b.invariant in
+    let h = c.loop-b-test.true in
+    elim c.match-step.branch [
+      | in-More w ↦ rw (w.heads-is, w.kinds-is, w.sides-is, w.bounds-is, w.counts-is, w.weights-is, w.literals-is, w.s-is, w.head-is)
+          (more i h c.step.ensures _ w.in-More.is)
+      | in-Term w ↦ rw (w.heads-is, w.kinds-is, w.sides-is, w.bounds-is, w.counts-is, w.weights-is, w.literals-is, w.s-is, w.head-is)
+          (term i h c.step.ensures _ w.in-Term.is w.put_term.ensures.weights_after w.put_term.ensures.literals_after)
+      | in-Constraint w ↦ rw (w.heads-is, w.kinds-is, w.sides-is, w.bounds-is, w.counts-is, w.weights-is, w.literals-is, w.s-is, w.head-is)
+          (constraint i h c.step.ensures _ w.in-Constraint.is w.put_rows.ensures)
+    ]
 
-pub returns-in-Fault : goal.returns-in-Fault
-returns-in-Fault c = no_fault c.loop-i.invariant c.loop-i-test.true c.step.ensures _ c.in-Fault.is
+pub returns-in-Refused : goal.returns-in-Refused
+returns-in-Refused c = no_fault c.loop-b.invariant c.loop-b-test.true c.step.ensures _ c.in-Refused.is
 
 pub returns : goal.returns
-returns c = end c.loop-i.invariant c.loop-i-test.false
+returns c = end c.loop-b.invariant c.loop-b-test.false
