@@ -6,14 +6,18 @@ use Prim.Native.Nat.{ℕ, zero, suc, ◌+◌, ◌*◌, ◌/◌, ◌≤◌}
 use native.Mathlib.Omega.{arith}
 use lib.ListN.{length, take, length-append, length-take}
 use lib.IntN.{ℤ}
+use Rattle.std.specs.Prelude.{Result, Ok, Err}
 use lib.Dec.{eqb}
 use Rattle.numbers.specs.Text.{bytes, decimal, signed_decimal}
 use Rattle.book.specs.Table.{Returned}
 use Rattle.columns.specs.Indexed.{nth}
 use Rattle.columns.specs.declared.Answer as load
 use Rattle.propagate.specs.declared.Propagated.{Propagated}
-use Rattle.propagate.specs.declared.Propagated.TheVariants.{Broken, Still, Conflict}
-use Rattle.pages.specs.Page.{Writes}
+use Rattle.propagate.specs.declared.Propagated.TheVariants.{Still, Conflict}
+use Rattle.calls.specs.declared.Refusal.{Refusal}
+use Rattle.calls.specs.Refusals.{code_of, value_of}
+use Rattle.pages.specs.declared.Page.{Page}
+use Rattle.pages.specs.Page.{Puts}
 use Rattle.pages.proofs.Laws.{on_page}
 use Rattle.pages.proofs.Lengths.{decimal_short, signed_short}
 use Rattle.answer_lines.specs.Lines.{refused_line, plan_line, done_line, propagated_line, bound, bounds_line, numbers, list_line, row_line, row_lines, trail_lines, line_bytes, list_bytes, trail_bytes}
@@ -31,10 +35,10 @@ plan_fits a = simp length-append (omega (arith, decimal_short a.code, decimal_sh
 pub done_fits : (name : List ℕ) (p : Returned) → length name ≤ 9 → length (done_line name p) ≤ line_bytes
 done_fits name p h = simp length-append (omega (arith, decimal_short p.code, decimal_short 0))
 
-pub propagated_fits : (a : Propagated) → length (propagated_line a) ≤ line_bytes
-propagated_fits (Broken c) = omega (arith, refused_fits 9 0)
-propagated_fits (Still n c) = simp length-append (omega (arith, decimal_short n))
-propagated_fits (Conflict k n c) = simp length-append (omega (arith, decimal_short n, decimal_short k.0))
+pub propagated_fits : (a : Result Propagated Refusal) → length (propagated_line a) ≤ line_bytes
+propagated_fits (Ok (Still n c)) = simp length-append (omega (arith, decimal_short n))
+propagated_fits (Ok (Conflict k n c)) = simp length-append (omega (arith, decimal_short n, decimal_short k.0))
+propagated_fits (Err e) = omega (arith, refused_fits (code_of e) (value_of e))
 
 bound_fits : (mark : ℕ) (z : ℤ) → length (bound mark z) ≤ 21
 bound_fits mark z = either (eqb mark 1) (bytes "-inf") (cond (eqb mark 2) (bytes "inf") (signed_decimal z)) 21 (omega arith)
@@ -79,9 +83,9 @@ trail_fits p list =
 
 -- ---- so the answer is a place on a page of that size
 
-module _ {old new : List ℕ} {r : ℕ} (p : Returned) (list : List ℤ) (k : ℕ) (l : length list ≡ k) where
-  pub list_on_page : (name : List ℕ) → length name ≤ 49 → length old ≡ list_bytes k → Writes old 0 new r (list_line name p list) → r ≤ length new
-  list_on_page name h e w = on_page w (omega (arith, list_fits name p list h))
+module _ {a b : Page} (p : Returned) (list : List ℤ) (k : ℕ) (l : length list ≡ k) (start : a.end ≡ 0) where
+  pub list_on_page : (name : List ℕ) → length name ≤ 49 → length a.bytes.now ≡ list_bytes k → Puts a b (list_line name p list) → b.end ≤ length b.bytes.now
+  list_on_page name h e w = on_page start w (omega (arith, list_fits name p list h))
 
-  pub trail_on_page : length old ≡ trail_bytes k → Writes old 0 new r (trail_lines p list) → r ≤ length new
-  trail_on_page e w = on_page w (omega (arith, trail_fits p list, ap (λ (n : ℕ). n / 3) l))
+  pub trail_on_page : length a.bytes.now ≡ trail_bytes k → Puts a b (trail_lines p list) → b.end ≤ length b.bytes.now
+  trail_on_page e w = on_page start w (omega (arith, trail_fits p list, ap (λ (n : ℕ). n / 3) l))

@@ -1,11 +1,13 @@
 -- The lines in which a program prints what the library answers: the bytes for every answer, over the paper's numbers (`Returned`) that the
 -- call hands back and, of a list call, the lent list after it.
-use Rattle.std.specs.Prelude.{cond, List, [], ◌∷◌, ◌++◌, ℕ, zero, suc, ◌+◌, ◌*◌, ◌/◌, length, take, get_or, ℤ, pos, eqb}
+use Rattle.std.specs.Prelude.{cond, List, [], ◌∷◌, ◌++◌, ℕ, zero, suc, ◌+◌, ◌*◌, ◌/◌, length, take, get_or, ℤ, pos, eqb, Result, Ok, Err}
 use Rattle.numbers.specs.Text.{bytes, decimal, signed_decimal}
 use Rattle.book.specs.Table.{Returned}
 use Rattle.columns.specs.declared.Answer as load
 use Rattle.propagate.specs.declared.Propagated.{Propagated}
-use Rattle.propagate.specs.declared.Propagated.TheVariants.{Broken, Still, Conflict}
+use Rattle.propagate.specs.declared.Propagated.TheVariants.{Still, Conflict}
+use Rattle.calls.specs.declared.Refusal.{Refusal}
+use Rattle.calls.specs.Refusals.{code_of, value_of}
 
 abbrev pub refused_line : ℕ → ℕ → List ℕ
 refused_line code value = bytes "refused " ++ decimal code ++ bytes " " ++ decimal value ++ bytes "\n"
@@ -27,10 +29,13 @@ abbrev pub conflict_line : ℕ → ℕ → List ℕ
 conflict_line count sentence = bytes "conflict " ++ decimal count ++ bytes " " ++ decimal sentence ++ bytes "\n"
 
 -- of the code's answer, and of the paper's numbers
-abbrev pub propagated_line : Propagated → List ℕ
-propagated_line (Broken c) = refused_line 9 0
-propagated_line (Still n c) = still_line n
-propagated_line (Conflict k n c) = conflict_line n k.0
+abbrev pub stopped_line : Propagated → List ℕ
+stopped_line (Still n c) = still_line n
+stopped_line (Conflict k n c) = conflict_line n k.0
+
+abbrev pub propagated_line : Result Propagated Refusal → List ℕ
+propagated_line (Ok a) = stopped_line a
+propagated_line (Err e) = refused_line (code_of e) (value_of e)
 
 abbrev pub stop_line : Returned → List ℕ
 stop_line p = cond (eqb p.code 0) (cond (eqb p.sentence 0) (still_line p.value) (conflict_line p.value p.sentence))

@@ -16,6 +16,7 @@ use Rattle.meaning.specs.Meaning.{atom, Entry, Kind, sum, product, count, maximu
 use Rattle.meaning.specs.Merge.{Rule}
 use Rattle.meaning.specs.Computed.{Standing, free, fixed}
 use Rattle.book.specs.Rows.{Row}
+pub use Rattle.kinds.specs.Kinds.{kind_of}
 
 abbrev pub word : List ℕ → ℕ → ℕ
 word w i = get_or w i 0
@@ -118,14 +119,7 @@ written_at w b = word w (b + 7) % 65536
 abbrev pub merged_at : List ℕ → ℕ → ℕ
 merged_at w b = word w (b + 7) / 65536
 
--- document 01's numbers of the kinds and sides
-abbrev pub kind_of : ℕ → Kind
-kind_of zero = sum
-kind_of (suc zero) = product
-kind_of (suc (suc zero)) = count
-kind_of (suc (suc (suc zero))) = maximum
-kind_of (suc (suc (suc (suc k)))) = minimum
-
+-- document 01's numbers of the sides
 abbrev pub side_of : ℕ → Side
 side_of zero = lower
 side_of (suc k) = upper

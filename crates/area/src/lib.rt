@@ -4,19 +4,21 @@
 
 ghost use Rattle.std.specs.Prelude.{◌≡◌, ℕ, ◌+◌, ◌-◌, ◌*◌, ◌≤◌, ◌<◌, ◌%◌, length, set};
 ghost use Rattle.decide.specs.Inner.Tells.{Tells};
-ghost use Rattle.area.specs.Layout.{word, atoms_of, sentences_of, length_of, level_of, value_at, literal_at, cause_at, place_at, row_at, head_at, tag_at, pending_at, kind_at, upper_at, bound_at, constant_at, least_at, greatest_at, before_at, written_at, merged_at, entry_at, weight_at, entry_literal_at, weight_in, literal_in};
+ghost use Rattle.area.specs.Layout.{word, atoms_of, sentences_of, length_of, level_of, value_at, literal_at, cause_at, place_at, row_at, head_at, tag_at, pending_at, kind_of, kind_at, upper_at, bound_at, constant_at, least_at, greatest_at, before_at, written_at, merged_at, entry_at, weight_at, entry_literal_at, weight_in, literal_in};
+ghost use Rattle.kinds.specs.Kinds.{meant};
+
+use kinds::Kind;
 
 // Whether the words from one on, up to another, are unused.
 pub fn blank(area: &[u64], from: usize, to: usize) -> bool
     requires { to ≤ length area.now }
     ensures { Tells result ((i : ℕ) → from ≤ i → i < to → word area.now i ≡ 0) }
 {
-    let mut i = from;
-    while i < to {
+    // Stays: tried, too slow (a chain of `all` took 0.65 ns a word and 13 ns for 16 words, this loop 0.48 and 9).
+    for i in from..to {
         if area[i] != 0 {
             return false;
         }
-        i += 1;
     }
     true
 }
@@ -123,11 +125,11 @@ pub fn pending_at(area: &[u64], base: usize) -> bool
     area[base + 1] >= 16
 }
 
-pub fn kind_at(area: &[u64], base: usize) -> u64
+pub fn kind_at(area: &[u64], base: usize) -> Kind
     requires { base + 8 ≤ length area.now }
-    ensures { result ≡ kind_at area.now base }
+    ensures { meant result ≡ kind_of (kind_at area.now base) }
 {
-    area[base + 1] % 8
+    Kind::numbered(area[base + 1] % 8)
 }
 
 // whether it says value ≤ bound

@@ -8,9 +8,5 @@ pub fn blank_words(words: &mut [u64], from: usize, to: usize)
     requires { (from ≤ to) × (to ≤ length words.old) }
     ensures { Blanked words.old words.new from to }
 {
-    let mut i = from;
-    while i < to {
-        words[i] = 0;
-        i += 1;
-    }
+    words[from..to].fill(0);
 }

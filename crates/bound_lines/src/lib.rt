@@ -1,33 +1,35 @@
 // The line of a sentence's bounds, put on a page.
 #![tactic(auto)]
 
-ghost use Rattle.calls.specs.Calls.{bounds_returned};
-ghost use Rattle.pages.specs.Page.{Writes};
+ghost use Rattle.book.specs.Table.{infinity, number};
+ghost use Rattle.calls.specs.Calls.{extended_of, bounds_returned};
+ghost use Rattle.pages.specs.Page.{Puts};
 ghost use Rattle.answer_lines.specs.Lines.{bound, bounds_line};
 
-use calls::Bounds;
+use calls::{Bound, Bounds, Refusal};
+use pages::Page;
 
-fn put_bound(page: &mut [u8], at: usize, mark: u64, number: i64) -> usize
-    ensures { Writes page.old at page.new result (bound mark number) }
+fn put_bound(page: &mut Page<'_>, b: Bound)
+    ensures { Puts page.old page.new (bound (infinity (extended_of b)) (number (extended_of b))) }
 {
-    if mark == 1 {
-        return pages::put_bytes(page, at, b"-inf");
+    match b {
+        Bound::BelowAll => page.put_bytes(b"-inf"),
+        Bound::AboveAll => page.put_bytes(b"inf"),
+        Bound::Number(z) => page.put_signed(z),
     }
-    if mark == 2 {
-        return pages::put_bytes(page, at, b"inf");
-    }
-    pages::put_signed(page, at, number)
 }
 
-pub fn put_bounds(page: &mut [u8], at: usize, answer: Bounds) -> usize
-    ensures { Writes page.old at page.new result (bounds_line (bounds_returned answer)) }
+pub fn put_bounds(page: &mut Page<'_>, answer: Result<Bounds, Refusal>)
+    ensures { Puts page.old page.new (bounds_line (bounds_returned answer)) }
 {
-    if answer.code != 0 {
-        return pages::put_pair(page, at, b"refused ", answer.code, 0);
+    match answer {
+        Ok(bounds) => {
+            page.put_bytes(b"bounds ");
+            put_bound(page, bounds.least);
+            page.put_bytes(b" ");
+            put_bound(page, bounds.greatest);
+            page.put_bytes(b"\n");
+        }
+        Err(refusal) => answer_lines::put_refused(page, refusal),
     }
-    let word = pages::put_bytes(page, at, b"bounds ");
-    let least = put_bound(page, word, answer.least_mark, answer.least);
-    let gap = pages::put_bytes(page, least, b" ");
-    let greatest = put_bound(page, gap, answer.greatest_mark, answer.greatest);
-    pages::put_bytes(page, greatest, b"\n")
 }

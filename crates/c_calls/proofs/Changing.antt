@@ -8,6 +8,7 @@ use native.Mathlib.Omega.{arith}
 use lib.ListN.{length}
 use lib.Dec.{T, eqb, leb, ltb}
 use borrow.Author.Tests.{eqb-true, eqb-false, eq-eqb, lt-ltb, le-ltb}
+use Rattle.std.specs.Prelude.{Result, Ok, Err}
 use Rattle.types.specs.declared.Limits.{Limits}
 use Rattle.decide.proofs.Below.{or_right}
 use Rattle.meaning.specs.Meaning.{atom}
@@ -17,14 +18,16 @@ use Rattle.book.specs.Book.{Counters}
 use Rattle.area.specs.Layout.{atoms_of, length_of, level_of, rows_of}
 use Rattle.area.specs.Whole.{Whole}
 use Rattle.whole.specs.Parts.{counters_with}
-use Rattle.calls.specs.Calls.{area_state, is_refusal, idle, unmoved, Moved, Acts}
+use Rattle.calls.specs.declared.Refusal.{Refusal}
+use Rattle.calls.specs.Refusals.{code_of, value_of, code_in}
+use Rattle.calls.specs.Calls.{area_state, refused_returned, is_refusal, idle, unmoved, Moved, Acts}
 use Rattle.trail_check.proofs.Rows.{rows_length}
 use Rattle.trail.proofs.Rows.{up_to_all}
 use Rattle.give.specs.Inner.Refused.{refusal_code}
 use Rattle.give.proofs.Refused.{replied}
 use Rattle.c_interface.specs.Interface.{packed, told, refuses, fronted, next_counted, Changes}
-use Rattle.c_interface.specs.Inner.Numbers.{one_number, number_of, stopped}
-use Rattle.c_interface.proofs.Numbers.{passes, short_only, refused_number, short_number, done_number}
+use Rattle.c_interface.specs.Inner.Numbers.{readied, one_number, number_of, stopped}
+use Rattle.c_interface.proofs.Numbers.{passes, short_only, refused_number, short_number, done_number, refusal_coded, refusal_number, ready_number, ready_small}
 use Rattle.c_interface.proofs.Telling.{Plain, told_number, refuses_stopped}
 
 -- ---- an effect is no refusal
@@ -84,6 +87,19 @@ module _ (lim : Limits) (w : List ℕ) (c : Counters) (x : Step) (h : Whole lim 
             ap₂ {A = ℕ} {B = ℕ} counters_with (sym m.whole.length_is ∙ sym (rows_length w' (atoms_of w') (length_of w')) ∙ ap {A = List Row} length m.rows)
             (sym m.whole.level_is ∙ m.level)
 
+-- ---- codes are small
+
+small_either : (b : Bool) {m n : ℕ} → m < 18 → n < 18 → cond b m n < 18
+small_either true f g = f
+small_either false f g = g
+
+code_small : (lim : Limits) (w : List ℕ) (x : Step) → refusal_code lim w x < 18
+code_small lim w (give l) = small_either (no_atom (area_state lim w) l) (omega arith) (small_either (on_trail (area_state lim w) (atom l)) (omega arith) (omega arith))
+code_small lim w open_level = small_either (leb lim.levels (level_of w)) (omega arith) (omega arith)
+code_small lim w (take_back k) = small_either (ltb (level_of w) k) (omega arith) (omega arith)
+code_small lim w propagate = omega arith
+code_small lim w (search ls) = small_either (any (no_atom (area_state lim w)) ls) (omega arith) (omega arith)
+
 -- ---- it is whole, and the refusal is asked for
 
 abbrev outcome : Limits → List ℕ → Step → Outcome
@@ -108,10 +124,10 @@ abbrev size : Limits → List ℕ → Step → (Outcome → List ℕ) → ℕ
 size lim w x handed = length (handed (outcome lim w x))
 
 -- r is the number of the call's refusal, of code k, or of too few lent words
-pub record Asked (lim : Limits) (w : List ℕ) (c : Counters) (x : Step) (handed : Outcome → List ℕ) (out : List ℕ) (k r : ℕ) : Type 0 where
-  pub whole : Whole lim w c
-  pub code : k ≡ refusal_code lim w x
-  pub number : r ≡ one_number k 0 (size lim w x handed) (length out) 0
+record Asked (lim : Limits) (w : List ℕ) (c : Counters) (x : Step) (handed : Outcome → List ℕ) (out : List ℕ) (k r : ℕ) : Type 0 where
+  whole : Whole lim w c
+  code : k ≡ refusal_code lim w x
+  number : r ≡ one_number k 0 (size lim w x handed) (length out) 0
 
 module _ {lim : Limits} {w : List ℕ} {c : Counters} {x : Step} {handed : Outcome → List ℕ} {out : List ℕ} {k r : ℕ}
     (asked : Asked lim w c x handed out k r) where
@@ -125,7 +141,7 @@ module _ {lim : Limits} {w : List ℕ} {c : Counters} {x : Step} {handed : Outco
   passed_code : k ≡ 0 → (numbers lim w x).code ≡ 0
   passed_code z = ap (λ (y : Outcome). (returned_by y.answer).code) (effects lim w c x asked.whole (sym asked.code ∙ z)) ∙ (accepted (area_state lim w) x).0
 
-  pub changes_early : ¬ (r ≡ 0) → Changes lim w w c x handed out out r
+  changes_early : ¬ (r ≡ 0) → Changes lim w w c x handed out out r
   changes_early d = go (eqb k 0) refl
     where
       go : (b : Bool) → eqb k 0 ≡ b → Changes lim w w c x handed out out r
@@ -160,14 +176,14 @@ module _ {lim : Limits} {w : List ℕ} {c : Counters} {x : Step} {handed : Outco
           }
 
   module _ (zero : r ≡ 0) where
-    pub passed : refusal_code lim w x ≡ 0
+    passed : refusal_code lim w x ≡ 0
     passed = sym asked.code ∙ (passes k 0 (size lim w x handed) (length out) (sym asked.number ∙ zero)).0
 
-    pub enough : size lim w x handed ≤ length out
+    enough : size lim w x handed ≤ length out
     enough = (passes k 0 (size lim w x handed) (length out) (sym asked.number ∙ zero)).1
 
     -- `given` is what the code hands back: by the counters after the call and the numbers of its answer
-    pub changes_done : {w' : List ℕ} {c' : Counters} {y : Returned} {out' : List ℕ} {s : ℕ} (given : Counters → Returned → List ℕ)
+    changes_done : {w' : List ℕ} {c' : Counters} {y : Returned} {out' : List ℕ} {s : ℕ} (given : Counters → Returned → List ℕ)
         → given (after (outcome lim w x)) (numbers lim w x) ≡ handed (outcome lim w x) → Acts lim w w' c c' x y → out' ≡ fronted (given c' y) out
         → s ≡ packed 0 y.sentence → Changes lim w w' c x handed out out' s
     changes_done {w'} {c'} {y} given same a front e =
@@ -186,6 +202,47 @@ module _ {lim : Limits} {w : List ℕ} {c : Counters} {x : Step} {handed : Outco
           idle = λ g t. (a.kept g t).0;
           moved = λ g t _. subst (λ (d : Counters). Moved lim w w' d (outcome lim w x)) (counts lim w c x asked.whole passed a) (a.moved g t);
         }
+
+-- ---- what `ready` answers, of what was asked for on a whole area
+
+pub record Found (lim : Limits) (w : List ℕ) (c : Counters) (x : Step) (A : Type 0) (found : Result A Refusal) : Type 0 where
+  pub whole : Whole lim w c
+  pub code : code_in found ≡ refusal_code lim w x
+
+module _ {lim : Limits} {w : List ℕ} {c : Counters} {x : Step} {A : Type 0} {found : Result A Refusal} (f : Found lim w c x A found) (handed : Outcome → List ℕ) (out : List ℕ) where
+  asked : Asked lim w c x handed out (code_in found) (refusal_number (size lim w x handed) (length out) (readied found (size lim w x handed) (length out)))
+  asked = record {
+    whole = f.whole;
+    code = f.code;
+    number = ready_number (size lim w x handed) (length out) found (omega (arith, f.code, code_small lim w x));
+  }
+
+  pub ready_refused : (e : Refusal) → Err e ≡ readied found (size lim w x handed) (length out) → Changes lim w w c x handed out out (packed (code_of e) (value_of e))
+  ready_refused e q =
+      let n = ap {A = Result A Refusal} (refusal_number (size lim w x handed) (length out)) q in
+      subst (λ r. Changes lim w w c x handed out out r) (sym n)
+      (changes_early asked (λ z. let b : ⊥ = omega (arith, n, z, refusal_coded e) in b))
+
+  pub ready_few : size lim w x handed ≤ 4 → (e : Refusal) → Err e ≡ readied found (size lim w x handed) (length out) → value_of e < 4294967296
+  ready_few l e q = omega (arith, l, ready_small (size lim w x handed) (length out) found e (omega (arith, f.code, code_small lim w x)) q)
+
+  module _ {a : A} (q : Ok a ≡ readied found (size lim w x handed) (length out)) where
+    nothing : refusal_number (size lim w x handed) (length out) (readied found (size lim w x handed) (length out)) ≡ 0
+    nothing = ap {A = Result A Refusal} (refusal_number (size lim w x handed) (length out)) (sym q)
+
+    pub ready_passed : refusal_code lim w x ≡ 0
+    ready_passed = passed asked nothing
+
+    -- the call itself is then not refused
+    pub ready_never : {w' : List ℕ} {c' : Counters} (e : Refusal) → Acts lim w w' c c' x (refused_returned e) → ⊥
+    ready_never e acts =
+        let z = ap (λ (p : Returned). p.code) (acts.answer.told f.whole) ∙ passed_code asked (f.code ∙ ready_passed) in
+        omega (arith, z, refusal_coded e)
+
+    pub ready_done : {w' : List ℕ} {c' : Counters} {y : Returned} {out' : List ℕ} {s : ℕ} (given : Counters → Returned → List ℕ)
+        → given (after (outcome lim w x)) (numbers lim w x) ≡ handed (outcome lim w x) → Acts lim w w' c c' x y → out' ≡ fronted (given c' y) out
+        → s ≡ packed 0 y.sentence → Changes lim w w' c x handed out out' s
+    ready_done given same acts front e = changes_done asked nothing given same acts front e
 
 -- ---- what is handed back, by the counters after the call and the answer's numbers
 
@@ -209,16 +266,3 @@ counted_words lim w =
     subst (λ (o : Outcome). three_words (after o) (returned_by o.answer) ≡ next_counted w o) (sym ((replied lim w propagate).passes refl))
     (ap {A = ℕ} (λ n. length (propagated (area_state lim w)).rows ∷ level_of w ∷ n ∷ [])
     (ended_value (propagated (area_state lim w)).sentence (put_on (area_state lim w))))
-
--- ---- codes are small
-
-small_either : (b : Bool) {m n : ℕ} → m < 256 → n < 256 → cond b m n < 256
-small_either true f g = f
-small_either false f g = g
-
-pub code_small : (lim : Limits) (w : List ℕ) (x : Step) → refusal_code lim w x < 256
-code_small lim w (give l) = small_either (no_atom (area_state lim w) l) (omega arith) (small_either (on_trail (area_state lim w) (atom l)) (omega arith) (omega arith))
-code_small lim w open_level = small_either (leb lim.levels (level_of w)) (omega arith) (omega arith)
-code_small lim w (take_back k) = small_either (ltb (level_of w) k) (omega arith) (omega arith)
-code_small lim w propagate = omega arith
-code_small lim w (search ls) = small_either (any (no_atom (area_state lim w)) ls) (omega arith) (omega arith)

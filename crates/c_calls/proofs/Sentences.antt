@@ -98,7 +98,7 @@ module _ (lim : Limits) (w : List ℕ) where
       (λ rs e. trying_below false q.atoms q.levels q.sentences ls e 0 q.level rs)
 
 pub sentence_small : {lim : Limits} {w w' : List ℕ} {c c' : Counters} {x : Step} {p : Returned} → Whole lim w c → refusal_code lim w x ≡ 0 → Acts lim w w' c c' x p
-    → (0 < 256) × (p.sentence < 4294967296)
+    → p.sentence < 4294967296
 sentence_small {lim} {w} {x = x} h z a =
     let is = ap (λ (y : Returned). y.sentence) (a.answer.told h) ∙ ap (λ (o : Outcome). (returned_by o.answer).sentence) ((replied lim w x).passes z) in
-    (omega arith, omega (arith, is, effect_sentence lim w x, judged_count w))
+    omega (arith, is, effect_sentence lim w x, judged_count w)

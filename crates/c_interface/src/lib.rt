@@ -1,9 +1,11 @@
-// What the functions for C share: one number for code and value, and numbers put at the front of lent words.
+// What the functions for C share: one number for code and value, and what is handed back at the front of lent words.
 #![tactic(auto)]
 
-ghost use Rattle.std.specs.Prelude.{◌≡◌, [], ◌∷◌, ◌<◌, ◌≤◌, length as list_length};
-ghost use Rattle.c_interface.specs.Inner.Numbers.{one_number};
+ghost use Rattle.std.specs.Prelude.{◌≡◌, ◌<◌, ◌≤◌, length as list_length};
+ghost use Rattle.c_interface.specs.Inner.Numbers.{number_in, value_in, readied};
 ghost use Rattle.c_interface.specs.Interface.{packed, fronted};
+
+use calls::Refusal;
 
 // The value in front of the code, which has the low byte.
 pub fn answer(code: u64, value: u64) -> u64
@@ -13,46 +15,32 @@ pub fn answer(code: u64, value: u64) -> u64
     value * 256 + code
 }
 
-// A refusal, or 18 where the lent words are fewer than those needed; 0 where there is neither.
-pub fn early(code: u64, value: u64, needed: usize, room: usize) -> u64
-    requires { (code < 256) × (value < 4294967296) × (needed < 4294967296) }
-    ensures { result ≡ one_number code value needed room 0 }
+// Code and value of an answer: 0 with its value, or those of its refusal.
+pub fn number(answered: Result<u64, Refusal>) -> u64
+    requires { value_in answered < 4294967296 }
+    ensures { result ≡ number_in answered }
 {
-    if code != 0 {
-        return answer(code, value);
+    match answered {
+        Ok(value) => answer(0, value),
+        Err(refusal) => answer(refusal.code(), refusal.value()),
     }
+}
+
+// What was asked for or its refusal, and then 18 where the lent words are fewer than those needed.
+pub fn ready<T: Copy>(asked: Result<T, Refusal>, needed: usize, room: usize) -> Result<T, Refusal>
+    ensures { result ≡ readied asked needed room }
+{
+    let found = asked?;
     if room < needed {
-        return answer(18, needed as u64);
+        return Err(Refusal::TooShort(needed as u64));
     }
-    0
+    Ok(found)
 }
 
-// Two words at the front.
-pub fn put_two(next: &mut [u64], a: u64, b: u64)
-    requires { 2 ≤ list_length next.old }
-    ensures { next.new ≡ fronted (a ∷ b ∷ []) next.old }
+// At the front of lent words.
+pub fn put_front<T: Copy, const N: usize>(next: &mut [T], words: [T; N])
+    requires { N ≤ list_length next.old }
+    ensures { next.new ≡ fronted words next.old }
 {
-    next[0] = a;
-    next[1] = b;
-}
-
-// Three words at the front.
-pub fn put_three(next: &mut [u64], a: u64, b: u64, c: u64)
-    requires { 3 ≤ list_length next.old }
-    ensures { next.new ≡ fronted (a ∷ b ∷ c ∷ []) next.old }
-{
-    next[0] = a;
-    next[1] = b;
-    next[2] = c;
-}
-
-// Four words at the front.
-pub fn put_four(next: &mut [u64], a: u64, b: u64, c: u64, d: u64)
-    requires { 4 ≤ list_length next.old }
-    ensures { next.new ≡ fronted (a ∷ b ∷ c ∷ d ∷ []) next.old }
-{
-    next[0] = a;
-    next[1] = b;
-    next[2] = c;
-    next[3] = d;
+    next[..N].copy_from_slice(&words);
 }

@@ -1,4 +1,4 @@
--- Codes and values of reports are small, so that the one number of both fits a word: a list has no more numbers than three for each row or a
+-- The values of reports are small, so that they fit a word beside a code: a list has no more numbers than three for each row or a
 -- sentence's scope and one more.
 use mathlib.Core.Path.{◌≡◌, refl, ap}
 use mathlib.Core.Bool.{Bool, true, false, cond}
@@ -90,38 +90,35 @@ module _ (lim : Limits) (fits : Fitting lim) (w : List ℕ) (c : Counters) (g : 
 -- a report's list
 
 abbrev Sized : State → Report → Outcome → Type 0
-Sized q x o = ((returned_by o.answer).code ≤ 18) × ((returned_by o.answer).value ≤ length (list_of (result_of q x)))
+Sized q x o = (returned_by o.answer).value ≤ length (list_of (result_of q x))
 
 module _ (lim : Limits) (fits : Fitting lim) (w : List ℕ) (c : Counters) (p : Returned) where
   abbrev q : State
   q = area_state lim w
 
   abbrev Small : Type 0
-  Small = (p.code < 256) × (p.value < 4294967296)
+  Small = p.value < 4294967296
 
   small : (x : Report) (room : ℕ) → Answered lim w c (a_report x room) p → Sized q x (reply q (a_report x room)) → (Whole lim w c → length (list_of (result_of q x)) ≤ 1000000) → Small
   small x room a s few =
-      let code : p.code ≤ 18 =
-      settled lim w c p.code 18 (λ g. omega (arith, ap (λ (y : Returned). y.code) (a.told g), s.0))
-      (λ b. omega (arith, ap (λ (y : Returned). y.code) (a.broken b))) in
       let value : p.value ≤ 1000000 =
-      settled lim w c p.value 1000000 (λ g. omega (arith, ap (λ (y : Returned). y.value) (a.told g), s.1, few g))
+      settled lim w c p.value 1000000 (λ g. omega (arith, ap (λ (y : Returned). y.value) (a.told g), s, few g))
       (λ b. omega (arith, ap (λ (y : Returned). y.value) (a.broken b))) in
-      (omega arith, omega arith)
+      omega arith
 
   pub trail_small : (room : ℕ) → Answered lim w c (a_report list_trail room) p → Small
   trail_small room a =
       small list_trail room a
-      (reply_by (Sized q list_trail) q (a_report list_trail room) (omega arith, omega arith) ((omega arith, omega arith), tt)
-      (omega arith, omega arith))
+      (reply_by (Sized q list_trail) q (a_report list_trail room) (omega arith) (omega arith, tt)
+      (omega arith))
       (λ _. omega (arith, rows_size w (atoms_of w) (length_of w)))
 
   pub origin_small : (l : ℤ) (room : ℕ) → Answered lim w c (a_report (origin l) room) p → Small
   origin_small l room a =
       let x = origin l in
       small x room a
-      (reply_by (Sized q x) q (a_report x room) (omega arith, omega arith)
-      ((omega arith, omega arith), ((omega arith, omega arith), ((omega arith, omega arith), tt))) (omega arith, omega arith))
+      (reply_by (Sized q x) q (a_report x room) (omega arith)
+      (omega arith, (omega arith, (omega arith, tt))) (omega arith))
       (λ _.
       let some = order_length (comes_from (scopes q.sentences) q.rows l) (trail (rows_of w)) in
       omega (arith, some, trail_length (rows_of w), rows_length w (atoms_of w) (length_of w)))
@@ -130,15 +127,15 @@ module _ (lim : Limits) (fits : Fitting lim) (w : List ℕ) (c : Counters) (p : 
   conflict_list_small k room a =
       let x = explain_conflict k in
       small x room a
-      (reply_by (Sized q x) q (a_report x room) (omega arith, omega arith)
-      ((omega arith, omega arith), ((omega arith, omega arith), ((omega arith, omega arith), tt))) (omega arith, omega arith))
+      (reply_by (Sized q x) q (a_report x room) (omega arith)
+      (omega arith, (omega arith, (omega arith, tt))) (omega arith))
       (λ g. omega (arith, causes_small lim fits w c g (trail (rows_of w)) k))
 
   pub explanation_small : (l : ℤ) (room : ℕ) → Answered lim w c (a_report (explain l) room) p → Small
   explanation_small l room a =
       let x = explain l in
       small x room a
-      (reply_by (Sized q x) q (a_report x room) (omega arith, omega arith)
-      ((omega arith, omega arith), ((omega arith, omega arith), ((omega arith, omega arith), ((omega arith, omega arith), tt))))
-      (omega arith, omega arith))
+      (reply_by (Sized q x) q (a_report x room) (omega arith)
+      (omega arith, (omega arith, (omega arith, (omega arith, tt))))
+      (omega arith))
       (λ g. omega (arith, causes_small lim fits w c g (trail (row_of l (rows_of w)).before) (row_of l (rows_of w)).mine.reason))

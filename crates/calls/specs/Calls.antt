@@ -1,15 +1,18 @@
 -- The contracts of the calls after load: document 01's table (`reply`) at the state that is read off the work area, and what happens to
 -- the words. `w` and `w'` are the words before and after, `c` the counters that the call got, `c'` those that it hands back.
-use Rattle.std.specs.Prelude.{◌≡◌, Bool, true, false, not, ◌||◌, List, ℕ, length, drop, ℤ, pos, T, eqb}
+use Rattle.std.specs.Prelude.{◌≡◌, Bool, true, false, not, ◌||◌, List, ℕ, length, drop, ℤ, pos, T, eqb, Result, Ok, Err}
 use Rattle.types.specs.declared.Limits.{Limits}
 use Rattle.types.specs.declared.Counters as t
-use Rattle.book.specs.Table.{Step, give, open_level, take_back, propagate, search, Report, Call, a_step, a_report, Answer, refused, done, still, conflict_in, searched, reported, Returned, returned_by, list_after, State, Outcome, reply}
+use Rattle.numbers.specs.Extended.{Extended, below, at, above}
+use Rattle.book.specs.Table.{Step, give, open_level, take_back, propagate, search, Report, Call, a_step, a_report, Answer, refused, done, still, conflict_in, searched, reported, Returned, numbers, returned_by, list_after, State, Outcome, reply}
 use Rattle.book.specs.Book.{Counters, judged_all}
 use Rattle.area.specs.Layout.{atoms_of, level_of, rows_of, theory_of, need_of}
 use Rattle.area.specs.Whole.{Whole}
-use Rattle.calls.specs.declared.Done.{Done}
+use Rattle.calls.specs.declared.Refusal.{Refusal}
+use Rattle.calls.specs.declared.Bound.{Bound}
+use Rattle.calls.specs.declared.Bound.TheVariants.{BelowAll, Number, AboveAll}
 use Rattle.calls.specs.declared.Bounds.{Bounds}
-use Rattle.calls.specs.declared.Listed.{Listed}
+use Rattle.calls.specs.Refusals.{code_of, value_of}
 
 abbrev pub counted : t.Counters → Counters
 counted c = record { length_is = c.length; level_is = c.level.0 }
@@ -22,15 +25,34 @@ area_state lim w =
 
 -- ---- what an answer of the code says on the paper
 
-abbrev pub done_returned : Done → Returned
-done_returned r = record { code = r.code; value = 0; sentence = 0; gone = 0; least_mark = 0; least = pos 0; greatest_mark = 0; greatest = pos 0 }
+-- each by its number, with its value
+abbrev pub refused_returned : Refusal → Returned
+refused_returned e = numbers (code_of e) (value_of e) 0 0 (at (pos 0)) (at (pos 0))
 
-abbrev pub bounds_returned : Bounds → Returned
-bounds_returned r =
-    record { code = r.code; value = 0; sentence = 0; gone = 0; least_mark = r.least_mark; least = r.least; greatest_mark = r.greatest_mark; greatest = r.greatest }
+-- of a call that hands back a value only where it is not refused
+module _ {A : Type 0} where
+  abbrev pub done_returned : Result A Refusal → Returned
+  done_returned (Ok a) = numbers 0 0 0 0 (at (pos 0)) (at (pos 0))
+  done_returned (Err e) = refused_returned e
 
-abbrev pub listed_returned : Listed → Returned
-listed_returned r = record { code = r.code; value = r.value; sentence = 0; gone = 0; least_mark = 0; least = pos 0; greatest_mark = 0; greatest = pos 0 }
+abbrev pub extended_of : Bound → Extended
+extended_of BelowAll = below
+extended_of (Number z) = at z
+extended_of AboveAll = above
+
+abbrev pub bounds_returned : Result Bounds Refusal → Returned
+bounds_returned (Ok b) = numbers 0 0 0 0 (extended_of b.least) (extended_of b.greatest)
+bounds_returned (Err e) = refused_returned e
+
+-- of a list, its length
+abbrev pub listed_returned : Result ℕ Refusal → Returned
+listed_returned (Ok n) = numbers 0 n 0 0 (at (pos 0)) (at (pos 0))
+listed_returned (Err e) = refused_returned e
+
+-- the counters that a caller holds after a call that had c: a refused one hands back none
+abbrev pub counters_after : t.Counters → Result t.Counters Refusal → t.Counters
+counters_after c (Ok d) = d
+counters_after c (Err e) = c
 
 -- ---- what the call answers: 9 where the area is not whole, and otherwise the table's answer
 

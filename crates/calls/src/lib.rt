@@ -1,28 +1,74 @@
 // The answers of the calls, as the code hands them back.
 #![tactic(auto)]
 
-use types::Counters;
+ghost use Rattle.std.specs.Prelude.{◌≡◌};
+ghost use Rattle.calls.specs.Refusals.{code_of, value_of};
 
-// Of give, open and take back: 0 or the refusal, and the counters after the call.
-#[derive(Clone, Copy)]
-pub struct Done {
-    pub code: u64,
-    pub counters: Counters,
+// Why a call after load is refused.
+#[derive(Clone, Copy, Debug, PartialEq, Eq)]
+pub enum Refusal {
+    // the area is not whole
+    NotWhole,
+    // a literal 0, or of no atom
+    NoAtom,
+    // the atom is on the trail, either sign
+    OnTrail,
+    // the literal is not on the trail
+    NotOnTrail,
+    // the literal was given, and not derived
+    Given,
+    // the level is the highest
+    HighestLevel,
+    // a level above the current
+    LevelAbove,
+    NoSentence,
+    // the sentence is not in conflict
+    NoConflict,
+    // the lent list is shorter than the result, whose length it is
+    TooShort(u64),
 }
 
-// Of bounds: each number with its mark, 0 a number, 1 below every number, 2 above every number.
-#[derive(Clone, Copy)]
+impl Refusal {
+    // Document 01's number.
+    pub fn code(self) -> u64
+        ensures { result ≡ code_of self }
+    {
+        match self {
+            Refusal::NotWhole => 9,
+            Refusal::NoAtom => 10,
+            Refusal::OnTrail => 11,
+            Refusal::NotOnTrail => 12,
+            Refusal::Given => 13,
+            Refusal::HighestLevel => 14,
+            Refusal::LevelAbove => 15,
+            Refusal::NoSentence => 16,
+            Refusal::NoConflict => 17,
+            Refusal::TooShort(_) => 18,
+        }
+    }
+
+    // What comes with it: the needed length, and 0 with any other.
+    pub fn value(self) -> u64
+        ensures { result ≡ value_of self }
+    {
+        match self {
+            Refusal::TooShort(needed) => needed,
+            _ => 0,
+        }
+    }
+}
+
+// A bound that a report gives.
+#[derive(Clone, Copy, Debug, PartialEq, Eq)]
+pub enum Bound {
+    BelowAll,
+    Number(i64),
+    AboveAll,
+}
+
+// The least and the greatest value of a sentence.
+#[derive(Clone, Copy, Debug, PartialEq, Eq)]
 pub struct Bounds {
-    pub code: u64,
-    pub least_mark: u64,
-    pub least: i64,
-    pub greatest_mark: u64,
-    pub greatest: i64,
-}
-
-// Of a call that writes a list: 0 with the list's length, or the refusal with its value.
-#[derive(Clone, Copy)]
-pub struct Listed {
-    pub code: u64,
-    pub value: u64,
+    pub least: Bound,
+    pub greatest: Bound,
 }

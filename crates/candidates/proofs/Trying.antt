@@ -8,17 +8,35 @@ use native.Mathlib.Omega.{arith}
 use lib.ListN.{length}
 use lib.IntN.{ℤ}
 use lib.Dec.{T, leb}
+use Rattle.std.specs.Prelude.{Result, Ok, Err}
 use Rattle.types.specs.declared.Limits.{Limits}
+use Rattle.types.specs.declared.Counters as t
 use Rattle.meaning.specs.Meaning.{atom}
 use Rattle.book.specs.Rows.{Row}
-use Rattle.book.specs.Table.{open_level, give, refused, Returned, returned_by, State, no_atom, on_trail, Outcome, unchanged, giving, opening, following, reply, a_step}
+use Rattle.book.specs.Table.{open_level, give, refused, done, Returned, returned_by, State, no_atom, on_trail, Outcome, unchanged, giving, opening, following, reply, a_step}
 use Rattle.book.specs.Book.{Counters, judged_all}
 use Rattle.book.proofs.Making.{give_taken}
 use Rattle.area.specs.Layout.{atoms_of, level_of, rows_of, theory_of}
 use Rattle.area.specs.Whole.{Whole}
-use Rattle.calls.specs.Calls.{area_state, is_refusal, unmoved, Moved, Acts}
-use Rattle.candidates.specs.Inner.Candidates.{LevelRefused, Tried}
+use Rattle.calls.specs.declared.Refusal.{Refusal}
+use Rattle.calls.specs.declared.Refusal.TheVariants.{NotWhole, NoAtom, OnTrail, NotOnTrail, Given, HighestLevel, LevelAbove, NoSentence, NoConflict, TooShort}
+use Rattle.calls.specs.Refusals.{code_of}
+use Rattle.calls.specs.Calls.{area_state, counted, counters_after, is_refusal, unmoved, refused_returned, done_returned, Moved, Acts}
+use Rattle.candidates.specs.Inner.Candidates.{LevelRefused, LiteralGiven, Tried}
 use Rattle.give.proofs.Moves.{rows_count, state_after, moved_twice}
+
+-- a refusal has a code
+coded : (e : Refusal) → ¬ (code_of e ≡ 0)
+coded NotWhole z = omega arith
+coded NoAtom z = omega arith
+coded OnTrail z = omega arith
+coded NotOnTrail z = omega arith
+coded Given z = omega arith
+coded HighestLevel z = omega arith
+coded LevelAbove z = omega arith
+coded NoSentence z = omega arith
+coded NoConflict z = omega arith
+coded (TooShort needed) z = omega arith
 
 moves_false : {o : Outcome} {q : Outcome} → q ≡ o → is_refusal o.answer ≡ false → T (not (is_refusal q.answer || false))
 moves_false {o} e f = subst (λ (x : Outcome). T (not (is_refusal x.answer || false))) (sym e) (subst (λ (b : Bool). T (not (b || false))) (sym f) tt)
@@ -37,27 +55,27 @@ module _ (lim : Limits) (w : List ℕ) where
   unfolding reply
   open_is = refl
 
-  module _ (w₁ : List ℕ) (c c₁ : Counters) (p : Returned) (h : Whole lim w c) (a : Acts lim w w₁ c c₁ open_level p) where
-    code_of : (b : Bool) → highest ≡ b → p.code ≡ (returned_by (replied b).answer).code
-    code_of b e = ap (λ (x : Returned). x.code) (a.answer.told h) ∙ ap (λ (o : Outcome). (returned_by o.answer).code) (open_is ∙ ap {A = Bool} replied e)
+  module _ (w₁ : List ℕ) (c c₁ : Counters) (h : Whole lim w c) where
+    told_code : (p : Returned) → Acts lim w w₁ c c₁ open_level p → (b : Bool) → highest ≡ b → p.code ≡ (returned_by (replied b).answer).code
+    told_code p a b e =
+        ap (λ (x : Returned). x.code) (a.answer.told h) ∙ ap (λ (o : Outcome). (returned_by o.answer).code) (open_is ∙ ap {A = Bool} replied e)
 
-    by_code : (b : Bool) → highest ≡ b → (p.code ≡ 0 → highest ≡ false) × (¬ (p.code ≡ 0) → highest ≡ true)
-    by_code true e = ((λ z. let k = code_of true e in let b : ⊥ = omega (arith, k, z) in absurd b), λ _. e)
-    by_code false e = ((λ _. e), λ d. absurd (d (code_of false e)))
+    pub level_refused : (e : Refusal) → Acts lim w w₁ c c₁ open_level (refused_returned e) → LevelRefused lim w w₁
+    level_refused e a = go highest refl
+      where
+        go : (b : Bool) → highest ≡ b → LevelRefused lim w w₁
+        go true q =
+            let kept : unmoved (area_state lim w) open_level ≡ true = ap (λ (o : Outcome). is_refusal o.answer || false) (open_is ∙ ap {A = Bool} replied q) in
+            record { highest = q; area_same = (a.kept h (subst T (sym kept) tt)).0 }
+        go false q = absurd (coded e (told_code (refused_returned e) a false q))
 
-    level_refused : ¬ (p.code ≡ 0) → LevelRefused lim w w₁ c c₁
-    level_refused d =
-        let e = (by_code highest refl).1 d in
-        let kept : unmoved q open_level ≡ true = ap (λ (o : Outcome). is_refusal o.answer || false) (open_is ∙ ap {A = Bool} replied e) in
-        let same = a.kept h (subst T (sym kept) tt) in
-        record { highest = e; area_same = same.0; counters_same = same.1 }
-
-    pub tried_refused : (l : ℤ) → ¬ (p.code ≡ 0) → Tried lim w w₁ c c₁ l p.code
-    tried_refused l d = record { refused = λ _. level_refused d; given = λ e. absurd (d e) }
-
-    module _ (passed : p.code ≡ 0) where
+    module _ (a : Acts lim w w₁ c c₁ open_level (returned_by done)) where
       below : highest ≡ false
-      below = (by_code highest refl).0 passed
+      below = go highest refl
+        where
+          go : (b : Bool) → highest ≡ b → highest ≡ false
+          go true q = let k = told_code (returned_by done) a true q in absurd (omega (arith, k))
+          go false q = q
 
       opened : reply q (a_step open_level) ≡ opening q
       opened = open_is ∙ ap {A = Bool} replied below
@@ -87,8 +105,12 @@ module _ (lim : Limits) (w : List ℕ) where
             let e : length (rows_of w₂) ≡ suc (length (rows_of w)) = ap {A = List Row} length given_moved.rows in
             omega (arith, e, rows_count lim w c h, rows_count lim w₂ c₂ given_moved.whole)
 
-        pub literal_given : Tried lim w w₂ c c₂ l p₂.code
-        literal_given = record {
-          refused = λ d. absurd (d given_code);
-          given = λ _. record { below = below; moved = moved_twice moved given_moved; longer = one_more };
-        }
+        literal_given : LiteralGiven lim w w₂ c c₂ l
+        literal_given = record { below = below; moved = moved_twice moved given_moved; longer = one_more }
+
+-- what the give answers: it is not refused
+pub tried : (lim : Limits) (w w₁ : List ℕ) (c : Counters) (d : t.Counters) (h : Whole lim w c) (a : Acts lim w w₁ c (counted d) open_level (returned_by done)) (l : ℤ)
+    → no_atom (area_state lim w) l ≡ false → on_trail (area_state lim w) (atom l) ≡ false → (w₂ : List ℕ) (r : Result t.Counters Refusal)
+    → Acts lim w₁ w₂ (counted d) (counted (counters_after d r)) (give l) (done_returned r) → Tried lim w w₂ c l r
+tried lim w w₁ c d h a l known off w₂ (Ok f) g = literal_given lim w w₁ c (counted d) h a l known off w₂ (counted f) (done_returned (Ok f)) g
+tried lim w w₁ c d h a l known off w₂ (Err e) g = absurd (coded e (given_code lim w w₁ c (counted d) h a l known off w₂ (counted d) (refused_returned e) g))

@@ -1,10 +1,15 @@
 -- Where the value word of an atom says that its literal stands: at its position, or nowhere where it is 0. Each atom stands once, so that
 -- position is the only one.
-use mathlib.Core.Path.{◌≡◌, sym, ◌∙◌, ap, subst}
+use mathlib.Core.Path.{◌≡◌, refl, sym, ◌∙◌, ap, subst}
+use mathlib.Core.Bool.{Bool, true, false}
 use mathlib.Core.List.{List}
 use Prim.Native.Nat.{ℕ, ◌+◌, ◌-◌, ◌*◌, ◌/◌, ◌%◌, ◌<◌, ◌≤◌}
 use native.Mathlib.Omega.{arith}
 use lib.IntN.{ℤ, pos, negsuc}
+use lib.Dec.{ltb}
+use Rattle.std.specs.Bool.{then_some}
+use Rattle.std.specs.Prelude.{Some, None}
+use borrow.Author.Tests.{ltb-true, ltb-false}
 use Rattle.numbers.specs.Words.{literal_of, literal_word}
 use Rattle.numbers.proofs.Words.{literal_of_word}
 use Rattle.meaning.specs.Meaning.{atom}
@@ -69,44 +74,40 @@ module _ (w : List ℕ) (n len : ℕ) (t : TrailAsked w n len) where
     -- ---- the literal of the atom among the first `limit` rows
 
     module _ (limit : ℕ) (few : limit ≤ len) where
-      cause_none : ((i : ℕ) → i < limit → ¬ (atom (literal i) ≡ a)) → CauseAt w n a limit limit
-      cause_none off = record {
-        few = omega arith;
-        stands = λ l rest. let b : ⊥ = omega arith in absurd b;
-        absent = λ _ rest. pick_none w n a limit off rest;
-      }
+      cause_none : ((i : ℕ) → i < limit → ¬ (atom (literal i) ≡ a)) → CauseAt w n a limit None
+      cause_none off = λ rest. pick_none w n a limit off rest
 
-      pub cause_open : v ≡ 0 → CauseAt w n a limit limit
+      pub cause_open : v ≡ 0 → CauseAt w n a limit None
       cause_open z = cause_none (λ i l. open_off z i (omega arith))
 
-      pub cause_late : ¬ (v ≡ 0) → limit ≤ (v - 1) / 2 → CauseAt w n a limit limit
+      cause_late : ¬ (v ≡ 0) → limit ≤ (v - 1) / 2 → CauseAt w n a limit None
       cause_late d h = cause_none (λ i l e. let q : i ≡ (v - 1) / 2 = only ((v - 1) / 2) (standing d) i (omega arith) e in let b : ⊥ = omega arith in b)
 
-      pub cause_found : ¬ (v ≡ 0) → (v - 1) / 2 < limit → CauseAt w n a limit ((v - 1) / 2)
+      cause_found : ¬ (v ≡ 0) → (v - 1) / 2 < limit → CauseAt w n a limit (Some ((v - 1) / 2))
       cause_found d h = record {
-        few = omega arith;
-        stands = λ l rest.
-            pick_one w n a ((v - 1) / 2) limit l (same_atom ((v - 1) / 2) (standing d)) (λ j m e. only ((v - 1) / 2) (standing d) j (omega arith) e) rest;
-        absent = λ e rest. let b : ⊥ = omega arith in absurd b;
+        inside = h;
+        picked = λ rest.
+            pick_one w n a ((v - 1) / 2) limit h (same_atom ((v - 1) / 2) (standing d)) (λ j m e. only ((v - 1) / 2) (standing d) j (omega arith) e) rest;
       }
+
+      cause_where : ¬ (v ≡ 0) → (b : Bool) → (b ≡ true → (v - 1) / 2 < limit) → (b ≡ false → limit ≤ (v - 1) / 2)
+          → CauseAt w n a limit (then_some b ((v - 1) / 2))
+      cause_where d true y z = cause_found d (y refl)
+      cause_where d false y z = cause_late d (z refl)
+
+      pub cause_placed : ¬ (v ≡ 0) → CauseAt w n a limit (then_some (ltb ((v - 1) / 2) limit) ((v - 1) / 2))
+      cause_placed d = cause_where d (ltb ((v - 1) / 2) limit) (ltb-true ((v - 1) / 2) limit) (ltb-false ((v - 1) / 2) limit)
 
   -- ---- a literal among all rows
 
   module _ (l : ℤ) {r u : ℕ} (x : AtomAt n (atom l) r) (told : u ≡ value_at w n r) where
-    absent_position : ((i : ℕ) → i < len → ¬ (literal i ≡ l)) → PositionIs w n l len len
-    absent_position off =
-        let none : ¬ (len < len) = λ h. let b : ⊥ = omega arith in b in record {
-          few = omega arith;
-          literal_is = λ h. absurd (none h);
-          row_is = λ h. absurd (none h);
-          stands = λ h. absurd (none h);
-          absent = λ _. stands_not w n l len off;
-        }
+    absent_position : ((i : ℕ) → i < len → ¬ (literal i ≡ l)) → PositionIs w n l len None
+    absent_position off = stands_not w n l len off
 
-    pub position_open : u ≡ 0 → PositionIs w n l len len
+    pub position_open : u ≡ 0 → PositionIs w n l len None
     position_open z = absent_position (λ i m e. open_off x told z i m (ap {A = ℤ} atom e))
 
-    pub position_opposite : ¬ (u ≡ 0) → ¬ ((u - 1) % 2 ≡ sign l) → PositionIs w n l len len
+    pub position_opposite : ¬ (u ≡ 0) → ¬ ((u - 1) % 2 ≡ sign l) → PositionIs w n l len None
     position_opposite d other = absent_position (λ i m e.
         let s = standing x told d in
         let q : (u - 1) / 2 ≡ i = sym (only x told ((u - 1) / 2) s i m (ap {A = ℤ} atom e)) in
@@ -114,16 +115,15 @@ module _ (w : List ℕ) (n len : ℕ) (t : TrailAsked w n len) where
         let z : sign l ≡ literal_at w n i % 2 = ap {A = ℤ} sign (sym e) ∙ sign_of (literal_at w n i) (omega (arith, at_i.half, low x told)) in
         other (omega (arith, at_i.word_is)))
 
-    pub position_found : ¬ (u ≡ 0) → (u - 1) % 2 ≡ sign l → PositionIs w n l len ((u - 1) / 2)
+    pub position_found : ¬ (u ≡ 0) → (u - 1) % 2 ≡ sign l → PositionIs w n l len (Some ((u - 1) / 2))
     position_found d e =
         let i = (u - 1) / 2 in
         let s = standing x told d in
         let word_is : literal_at w n i ≡ literal_word l = omega (arith, s.half, s.word_is, word_parts l) in
         let is : literal i ≡ l = ap {A = ℕ} literal_of word_is ∙ literal_of_word l in
         record {
-          few = omega (arith, s.inside);
-          literal_is = λ _. is;
-          row_is = λ m. row_of_one w n l i len m is (λ j k q. only x told i s j k (ap {A = ℤ} atom q));
-          stands = λ m. stands_at w n l i len m is;
-          absent = λ q. let b : ⊥ = omega (arith, s.inside) in absurd b;
+          inside = s.inside;
+          literal_is = is;
+          row_is = row_of_one w n l i len s.inside is (λ j k q. only x told i s j k (ap {A = ℤ} atom q));
+          found = stands_at w n l i len s.inside is;
         }

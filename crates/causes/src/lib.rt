@@ -18,7 +18,7 @@ fn atom_at(area: &[u64], n: usize, sentences: usize, base: usize, place: usize) 
     (area::entry_literal_at(area, n, sentences, base, place - 1) / 2) as usize
 }
 
-// Where the literal of the atom at a place of that sentence stands among the first `limit` rows; `limit` where it does not.
+// Where the literal of the atom at a place of that sentence stands among the first `limit` rows, if it does.
 pub fn cause_at(
     area: &[u64],
     n: usize,
@@ -26,18 +26,14 @@ pub fn cause_at(
     base: usize,
     place: usize,
     limit: usize,
-) -> usize
+) -> Option<usize>
     requires { CausesAsked area.now n sentences base limit × (place ≤ merged_at area.now base) }
     ensures { CauseAt area.now n (get_or (scope (rule_at area.now n sentences base)) place 0) limit result }
 {
-    let atom = atom_at(area, n, sentences, base, place);
-    let v = area::value_at(area, n, atom);
+    let v = area::value_at(area, n, atom_at(area, n, sentences, base, place));
     if v == 0 {
-        return limit;
+        return None;
     }
     let position = ((v - 1) / 2) as usize;
-    if position < limit {
-        return position;
-    }
-    limit
+    (position < limit).then_some(position)
 }

@@ -2,47 +2,44 @@
 #![tactic(auto)]
 
 ghost use Rattle.std.specs.Prelude.{◌≡◌, ◌+◌, ◌≤◌, length};
-ghost use Rattle.chosen.specs.Inner.Chosen.{Choosable, origin_marked, chosen_literals, in_front};
+ghost use Rattle.chosen.specs.Inner.Chosen.{Choosable, ChosenAt, chosen_literals, in_front};
 
-// Whether position i is marked and its literal was given.
-fn is_chosen(area: &[u64], n: usize, i: usize, marks: &[u8]) -> bool
+// The literal at position i, if the position is marked and the literal was given.
+fn chosen_at(area: &[u64], n: usize, i: usize, marks: &[bool]) -> Option<i64>
     requires { Choosable area.now n (i + 1) marks.now }
-    ensures { result ≡ origin_marked area.now n marks.now i }
+    ensures { ChosenAt area.now n marks.now i result }
 {
-    if marks[i] == 0 {
-        return false;
+    if marks[i] && area::row_reason(area, n, i) == 0 {
+        Some(literals::literal_of(area::literal_at(area, n, i)))
+    } else {
+        None
     }
-    area::row_reason(area, n, i) == 0
 }
 
-// How many of the first rows those are.
-pub fn count_chosen(area: &[u64], n: usize, rows: usize, marks: &[u8]) -> usize
+// How many of the first rows have one.
+pub fn count_chosen(area: &[u64], n: usize, rows: usize, marks: &[bool]) -> usize
     requires { Choosable area.now n rows marks.now }
     ensures { result ≡ length (chosen_literals area.now n marks.now rows) }
 {
     let mut found: usize = 0;
-    let mut i: usize = 0;
-    while i < rows {
-        if is_chosen(area, n, i, marks) {
+    for i in 0..rows {
+        if chosen_at(area, n, i, marks).is_some() {
             found += 1;
         }
-        i += 1;
     }
     found
 }
 
-// Their literals, at the front of the list; the rest of it keeps its contents.
-pub fn write_chosen(area: &[u64], n: usize, rows: usize, marks: &[u8], list: &mut [i64])
+// Those literals, at the front of the list; the rest of it keeps its contents.
+pub fn write_chosen(area: &[u64], n: usize, rows: usize, marks: &[bool], list: &mut [i64])
     requires { Choosable area.now n rows marks.now × (length (chosen_literals area.now n marks.now rows) ≤ length list.old) }
     ensures { list.new ≡ in_front (chosen_literals area.now n marks.now rows) list.old }
 {
     let mut at: usize = 0;
-    let mut i: usize = 0;
-    while i < rows {
-        if is_chosen(area, n, i, marks) {
-            list[at] = literals::literal_of(area::literal_at(area, n, i));
+    for i in 0..rows {
+        if let Some(literal) = chosen_at(area, n, i, marks) {
+            list[at] = literal;
             at += 1;
         }
-        i += 1;
     }
 }

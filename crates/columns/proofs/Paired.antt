@@ -7,9 +7,11 @@ use Prim.Native.Nat.{ℕ, zero, suc, ◌<◌}
 use native.Mathlib.Omega.{arith}
 use lib.IntN.{ℤ, pos, neg_ℤ, nat_abs, ◌*ℤ◌}
 use lib.ListN.{length}
+use Rattle.std.specs.List.{list_any}
 use Rattle.decide.specs.Below.{some_below, product_below}
 use Rattle.decide.proofs.Below.{product_front}
-use Rattle.meaning.specs.Meaning.{Entry, same, multiplied}
+use Rattle.meaning.specs.Meaning.{atom, Entry, same, multiplied}
+use Rattle.meaning.proofs.Trails.{atom_size}
 use Rattle.area.specs.Whole.{weights_of}
 use Rattle.columns.specs.Columns.{paired}
 use Rattle.columns.specs.Refusals.{some_entry, both_signs}
@@ -21,6 +23,19 @@ some_first : (k : ℕ) (p : ℕ → Bool) → some_below (suc k) p ≡ (p 0 || s
 unfolding some_below
 some_first zero p = or_comm false (p 0)
 some_first (suc k) p = ap (λ b. b || p (suc k)) (some_first k p) ∙ or_assoc (p 0) (some_below k (λ i. p (suc i))) (p (suc k))
+
+-- some number of a list passes, as `any` looks for it
+pub some_of : (p : ℤ → Bool) (xs : List ℤ) → list_any p xs ≡ some_below (length xs) (λ i. p (nth xs i))
+unfolding some_below
+some_of p [] = refl
+some_of p (x ∷ xs) = ap (λ b. p x || b) (some_of p xs) ∙ sym (some_first (length xs) (λ i. p (nth (x ∷ xs) i)))
+
+-- some number's size passes, which is its atom
+pub some_size : (p : ℕ → Bool) (xs : List ℤ) → list_any (λ x. p (nat_abs x)) xs ≡ some_below (length xs) (λ i. p (atom (nth xs i)))
+unfolding some_below
+some_size p [] = refl
+some_size p (x ∷ xs) = ap₂ {A = Bool} {B = Bool} (λ a b. a || b) (ap {A = ℕ} p (sym (atom_size x))) (some_size p xs)
+    ∙ sym (some_first (length xs) (λ i. p (atom (nth (x ∷ xs) i))))
 
 some_same : (k : ℕ) (p q : ℕ → Bool) → ((i : ℕ) → p i ≡ q i) → some_below k p ≡ some_below k q
 unfolding some_below

@@ -13,8 +13,7 @@ use Rattle.decide.specs.Below.{sum_first}
 use Rattle.decide.proofs.Below.{sum_step, sum_upto}
 use Rattle.columns.specs.Columns.{Columns}
 use Rattle.columns.specs.Refusals.{misshapen}
-use Rattle.columns.specs.Indexed.{sizes, above_limits, unequal_sizes}
-use Rattle.columns.specs.declared.Sizes.{Sizes}
+use Rattle.columns.specs.Indexed.{Sizes, sizes, above_limits, unequal_sizes}
 use Rattle.columns.specs.Decides.{Limited, Equal, Shaped}
 use Rattle.columns.proofs.Clauses.{none_holds}
 

@@ -38,7 +38,7 @@ module _ (lim : Limits) (n head kind side : ℕ) (bound : ℤ) (ws ls : List ℤ
   strange_is : strange n (written_as head kind side bound ws ls) ≡ (outside n head || no_literal n ls)
   strange_is = ap (λ b. outside n head || b) (some_literal (λ l. outside n (atom l)) ws ls e)
 
-  out_of_range_is : out_of_range (written_as head kind side bound ws ls) ≡ (unfit_weights kind ws || not (bound_fits bound))
+  out_of_range_is : out_of_range (written_as head kind side bound ws ls) ≡ (unfit_weights (kind_of kind) ws || not (bound_fits bound))
   out_of_range_is = ap (λ b. b || not (bound_fits bound)) (some_weight (λ w. not (weight_fits (kind_of kind) w)) ws ls e)
 
   own_head_is : own_head (written_as head kind side bound ws ls) ≡ head_inside head ls
@@ -47,14 +47,14 @@ module _ (lim : Limits) (n head kind side : ℕ) (bound : ℤ) (ws ls : List ℤ
   mixed_is : mixed (written_as head kind side bound ws ls) ≡ (not (mixes (kind_of kind)) && negated ls)
   mixed_is = ap (λ b. not (mixes (kind_of kind)) && b) (both_signs_paired ws ls e)
 
-  written_product : unfit_weights 1 ws ≡ false → multiplied (weights_of (merge product (paired ws ls)).entries) ≡ pos (product_below (length ws) (λ i. nat_abs (nth ws i)))
+  written_product : unfit_weights product ws ≡ false → multiplied (weights_of (merge product (paired ws ls)).entries) ≡ pos (product_below (length ws) (λ i. nat_abs (nth ws i)))
   written_product f = merge_product (paired ws ls) ∙ ap multiplied (paired_weights ws ls e)
       ∙ multiplied_natural ws (λ i l. (product_weight (nth ws i) (none_has i (length ws) (λ k. not (weight_fits product (nth ws k))) f l)).1)
 
-  too_great_is : unfit_weights kind ws ≡ false → too_great (written_as head kind side bound ws ls) ≡ (is_product kind && product_above ws)
+  too_great_is : unfit_weights (kind_of kind) ws ≡ false → too_great (written_as head kind side bound ws ls) ≡ (is_product kind && product_above ws)
   too_great_is f =
       elim (is_product kind) as (λ b. is_product kind ≡ b → (b && not (le_z (multiplied (weights_of (merge product (paired ws ls)).entries)) (pos bound_limit))) ≡ (b && product_above ws)) [
-        | true ↦ λ k. ap (λ z. not (le_z z (pos bound_limit))) (written_product (subst (λ j. unfit_weights j ws ≡ false) (eqb-true kind 1 k) f))
+        | true ↦ λ k. ap (λ z. not (le_z z (pos bound_limit))) (written_product (subst (λ j. unfit_weights (kind_of j) ws ≡ false) (eqb-true kind 1 k) f))
             ∙ natural_leb (product_below (length ws) (λ i. nat_abs (nth ws i))) bound_limit
         | false ↦ λ k. refl
       ]
@@ -63,6 +63,6 @@ module _ (lim : Limits) (n head kind side : ℕ) (bound : ℤ) (ws ls : List ℤ
   -- the code by the columns is the sentence's
   pub column_code_is : column_code lim n head kind side bound ws ls ≡ sentence_code lim n (written_as head kind side bound ws ls)
   column_code_is = rw (unknown_is, strange_is, out_of_range_is, own_head_is, mixed_is)
-      (last_test (unknown_shape lim.each kind side (length ls)) (outside n head || no_literal n ls) (unfit_weights kind ws || not (bound_fits bound))
+      (last_test (unknown_shape lim.each kind side (length ls)) (outside n head || no_literal n ls) (unfit_weights (kind_of kind) ws || not (bound_fits bound))
       (head_inside head ls) (not (mixes (kind_of kind)) && negated ls) (is_product kind && product_above ws) (too_great (written_as head kind side bound ws ls))
-      (λ h. sym (too_great_is (left_false (unfit_weights kind ws) (not (bound_fits bound)) h))))
+      (λ h. sym (too_great_is (left_false (unfit_weights (kind_of kind) ws) (not (bound_fits bound)) h))))

@@ -4,6 +4,7 @@ use Rattle.std.proofs.Math.Seq.{slice}
 use Rattle.decide.specs.Below.{sum_first}
 use Rattle.meaning.specs.Meaning.{Entry, Sentence}
 use Rattle.area.specs.Layout.{kind_of, side_of}
+use Rattle.columns.specs.declared.Columns as lent
 
 -- one number a sentence in the first five columns, one an entry in the last two
 pub record Columns : Type 0 where
@@ -18,6 +19,10 @@ pub record Columns : Type 0 where
 abbrev pub seven_columns : List ℕ → List ℕ → List ℕ → List ℤ → List ℕ → List ℤ → List ℤ → Columns
 seven_columns heads kinds sides bounds counts weights literals =
     record { heads = heads; kinds = kinds; sides = sides; bounds = bounds; counts = counts; weights = weights; literals = literals }
+
+-- the columns that are lent
+abbrev pub held : lent.Columns → Columns
+held c = seven_columns c.heads.now c.kinds.now c.sides.now c.bounds.now c.counts.now c.weights.now c.literals.now
 
 -- a sentence as written, before its numbers are looked at
 pub record Written : Type 0 where

@@ -6,12 +6,9 @@ use Rattle.meaning.specs.Meaning.{Each}
 use Rattle.book.specs.Table.{Refusal}
 use Rattle.columns.specs.Columns.{Columns, written_at}
 use Rattle.columns.specs.Refusals.{misshapen, columns_need}
-use Rattle.columns.specs.Indexed.{sizes, Passes}
-use Rattle.columns.specs.declared.Sizes.{Sizes}
+use Rattle.columns.specs.Indexed.{Sizes, sizes, Passes}
+pub use Rattle.columns.specs.Answers.{answer}
 use Rattle.columns.specs.declared.Answer.{Answer}
-
-abbrev pub answer : (code sentence : ℕ) → Answer
-answer code k = record { code = code; sentence = record { 0 = k } }
 
 -- the answer is the first refusal that applies
 abbrev pub First : List Refusal → Answer → Type 0

@@ -3,17 +3,25 @@ use Rattle.std.specs.Prelude.{◌≡◌, Bool, false, not, cond, ◌||◌, ◌&&
 use Rattle.types.specs.declared.Limits.{Limits}
 use Rattle.types.specs.Limits.{bound_limit}
 use Rattle.decide.specs.Below.{some_below, product_below}
-use Rattle.meaning.specs.Meaning.{atom, same, mixes}
+use Rattle.meaning.specs.Meaning.{atom, Kind, same, mixes}
 use Rattle.kinds.specs.Kinds.{weight_fits}
 use Rattle.area.specs.Layout.{kind_of}
 use Rattle.columns.specs.Columns.{Columns, Written}
 use Rattle.columns.specs.Refusals.{unknown, outside, strange, bound_fits, out_of_range, own_head, mixed, is_product, too_great}
-use Rattle.columns.specs.declared.Sizes.{Sizes}
 
 abbrev pub nth : List ℤ → ℕ → ℤ
 nth l i = get_or l i (pos 0)
 
--- 1, but for the sum of the counts
+-- 1, but for the sum of the counts: how many numbers each column has
+pub record Sizes : Type 0 where
+  pub heads : ℕ
+  pub kinds : ℕ
+  pub sides : ℕ
+  pub bounds : ℕ
+  pub counts : ℕ
+  pub weights : ℕ
+  pub literals : ℕ
+
 abbrev pub sizes : Columns → Sizes
 sizes c = record {
   heads = length c.heads;
@@ -42,8 +50,8 @@ abbrev pub no_literal : ℕ → List ℤ → Bool
 no_literal n literals = some_below (length literals) (λ i. outside n (atom (nth literals i)))
 
 -- 5
-abbrev pub unfit_weights : ℕ → List ℤ → Bool
-unfit_weights kind weights = some_below (length weights) (λ i. not (weight_fits (kind_of kind) (nth weights i)))
+abbrev pub unfit_weights : Kind → List ℤ → Bool
+unfit_weights kind weights = some_below (length weights) (λ i. not (weight_fits kind (nth weights i)))
 
 -- 6
 abbrev pub head_inside : ℕ → List ℤ → Bool
@@ -72,7 +80,7 @@ sentence_code lim n x = first_code (unknown lim x) (strange n x) (out_of_range x
 abbrev pub column_code : Limits → (n head kind side : ℕ) → ℤ → List ℤ → List ℤ → ℕ
 column_code lim n head kind side bound weights literals =
     first_code (unknown_shape lim.each kind side (length literals)) (outside n head || no_literal n literals)
-    (unfit_weights kind weights || not (bound_fits bound)) (head_inside head literals) (not (mixes (kind_of kind)) && negated literals)
+    (unfit_weights (kind_of kind) weights || not (bound_fits bound)) (head_inside head literals) (not (mixes (kind_of kind)) && negated literals)
     (is_product kind && product_above weights)
 
 -- none of 3 to 8 applies to the sentence

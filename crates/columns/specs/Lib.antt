@@ -1,4 +1,5 @@
 pub mod Columns
+pub mod Answers
 pub mod Refusals
 pub mod Indexed
 pub mod Decides

@@ -6,12 +6,14 @@ use Prim.Native.Nat.{ℕ, suc, ◌+◌, ◌-◌, ◌<◌, ◌≤◌}
 use native.Mathlib.Omega.{arith}
 use lib.IntN.{ℤ}
 use lib.ListN.{length, drop}
+use Rattle.std.specs.Prelude.{Ok, Err}
 use Rattle.types.specs.declared.Limits.{Limits}
 use Rattle.types.specs.Limits.{Fitting}
 use Rattle.book.specs.Table.{explain_conflict}
 use Rattle.book.specs.Book.{Counters}
 use Rattle.area.specs.Layout.{atoms_of, sentences_of, length_of, record_at}
 use Rattle.area.specs.Whole.{Whole}
+use Rattle.calls.specs.declared.Refusal.TheVariants.{NoConflict, TooShort}
 use Rattle.causes.specs.Inner.Causes.{CausesAsked}
 use Rattle.causes.specs.Inner.Listing.{Listing}
 use Rattle.causes.proofs.Gives.{causes_asked}
@@ -39,23 +41,23 @@ module _ {lim : Limits} {w : List ℕ} {c : Counters} (fit : Fitting lim) (h : W
     conflict_asked = causes_asked lim w c fit h (k - 1) (length_of w) inside (omega arith)
 
     pub quiet_refused : (old : List ℤ) → ConflictIs w n S (record_at n (k - 1)) false
-        → Listing lim w (explain_conflict k) old old (record { code = 17; value = 0 })
+        → Listing lim w (explain_conflict k) old old (Err NoConflict)
     quiet_refused old is =
-        listing_refused lim w (explain_conflict k) old 17 0
+        listing_refused lim w (explain_conflict k) old NoConflict
         (conflict_quiet lim w k (length old) (k - 1) number inside (conflict_tested fit h (k - 1) inside k false number is))
 
     abbrev all : List ℤ
     all = negations w n S (record_at n (k - 1)) (length_of w)
 
     module _ (is : ConflictIs w n S (record_at n (k - 1)) true) (old : List ℤ) {found : ℕ} (counted : found ≡ length all) where
-      pub clash_short : length old < found → Listing lim w (explain_conflict k) old old (record { code = 18; value = found })
+      pub clash_short : length old < found → Listing lim w (explain_conflict k) old old (Err (TooShort found))
       clash_short room =
-          subst (λ m. Listing lim w (explain_conflict k) old old (record { code = 18; value = m })) (sym counted)
-          (listing_refused lim w (explain_conflict k) old 18 (length all)
+          subst (λ m. Listing lim w (explain_conflict k) old old (Err (TooShort m))) (sym counted)
+          (listing_refused lim w (explain_conflict k) old (TooShort (length all))
           (conflict_short lim w k (length old) (k - 1) number inside (conflict_tested fit h (k - 1) inside k true number is) (omega arith)))
 
       pub clash_listed : {new : List ℤ} → found ≤ length old → new ≡ overwritten old 0 all
-          → Listing lim w (explain_conflict k) old new (record { code = 0; value = found })
+          → Listing lim w (explain_conflict k) old new (Ok found)
       clash_listed {new} room e =
           let size : 0 + length all ≡ found = omega arith in
           listing_done lim w (explain_conflict k) old all new found

@@ -2,6 +2,7 @@
 -- code counts and writes.
 use mathlib.Core.Path.{◌≡◌, ◌∙◌, ap, ap₂}
 use mathlib.Core.Bool.{Bool, true, false, not, ◌&&◌}
+use mathlib.Core.Logic.{◌⊎◌, inl, inr}
 use mathlib.Core.List.{List, [], map}
 use Prim.Native.Nat.{ℕ, suc, ◌<◌, ◌≤◌}
 use native.Mathlib.Omega.{arith}
@@ -34,11 +35,11 @@ module _ (lim : Limits) (w : List ℕ) where
     unfolding reply
     no_number e = rw e
 
-    pub conflict_none : k ≡ 0 → (reply (area_state lim w) (a_report (explain_conflict k) room)).answer ≡ refused 16 0
-    conflict_none e = no_number (ap {A = Bool} (λ b. not (b && leb k (length js))) (lt-leb 1 k (omega arith)))
-
-    pub conflict_past : S < k → (reply (area_state lim w) (a_report (explain_conflict k) room)).answer ≡ refused 16 0
-    conflict_past h = no_number (ap₂ {A = Bool} {B = Bool} (λ x y. not (x && y)) (le-leb 1 k (omega arith)) (lt-leb k (length js) (omega (arith, judged_count w))))
+    pub conflict_unnumbered : (s : ℕ) → s ≡ S → (k ≡ 0) ⊎ (¬ (k ≡ 0) × (s < k))
+        → (reply (area_state lim w) (a_report (explain_conflict k) room)).answer ≡ refused 16 0
+    conflict_unnumbered s e (inl z) = no_number (ap {A = Bool} (λ b. not (b && leb k (length js))) (lt-leb 1 k (omega arith)))
+    conflict_unnumbered s e (inr (d, h)) =
+        no_number (ap₂ {A = Bool} {B = Bool} (λ x y. not (x && y)) (le-leb 1 k (omega arith)) (lt-leb k (length js) (omega (arith, judged_count w))))
 
   module _ (k room s : ℕ) (number : k ≡ suc s) (few : s < S) where
     a_number : no_sentence (area_state lim w) k ≡ false

@@ -8,8 +8,9 @@ ghost use Rattle.calls.specs.Calls.{counted};
 ghost use Rattle.causes.specs.Inner.Listing.{Listing};
 ghost use Rattle.conflict.specs.Inner.Conflict.{Comparable, ConflictIs};
 
-use calls::Listed;
+use calls::Refusal;
 use evaluate::Said;
+use extremes::Extremes;
 use types::{Counters, Limits, Sentence};
 
 // The sentence at `base` is in conflict with the values.
@@ -17,14 +18,14 @@ fn in_conflict(area: &[u64], n: usize, sentences: usize, base: usize) -> bool
     requires { Comparable area.now n sentences base }
     ensures { ConflictIs area.now n sentences base result }
 {
-    let least = area::least_at(area, base);
-    let greatest = area::greatest_at(area, base);
-    let said = evaluate::says(area, n, sentences, base, least, greatest);
-    match said {
-        Said::Silent => false,
-        Said::Conflict => true,
-        Said::Forced(_) => false,
-    }
+    let stored = Extremes {
+        least: area::least_at(area, base),
+        greatest: area::greatest_at(area, base),
+    };
+    matches!(
+        evaluate::says(area, n, sentences, base, stored),
+        Said::Conflict
+    )
 }
 
 // The answer on a whole area, and the list.
@@ -34,34 +35,24 @@ pub fn conflict_whole(
     counters: Counters,
     sentence: Sentence,
     list: &mut [i64],
-) -> Listed
+) -> Result<u64, Refusal>
     requires { Fitting lim × Whole lim area.now (counted counters) }
     ensures { Listing lim area.now (explain_conflict sentence.0) list.old list.new result }
 {
     let n = area::atoms_of(area);
     let sentences = area::sentences_of(area);
-    let k = sentence.0;
-    if k == 0 {
-        return Listed { code: 16, value: 0 };
+    if sentence.0 == 0 || sentence.0 > sentences as u64 {
+        return Err(Refusal::NoSentence);
     }
-    if k > sentences as u64 {
-        return Listed { code: 16, value: 0 };
-    }
-    let base = 4 * n + 8 * (k as usize - 1);
+    let base = 4 * n + 8 * (sentence.0 - 1) as usize;
     if !in_conflict(area, n, sentences, base) {
-        return Listed { code: 17, value: 0 };
+        return Err(Refusal::NoConflict);
     }
     let rows = area::length_of(area);
     let needed = negations::count_causes(area, n, sentences, base, rows);
-    if needed > list.len() {
-        return Listed {
-            code: 18,
-            value: needed as u64,
-        };
+    if list.len() < needed {
+        return Err(Refusal::TooShort(needed as u64));
     }
     negations::write_causes(area, n, sentences, base, rows, list, 0);
-    Listed {
-        code: 0,
-        value: needed as u64,
-    }
+    Ok(needed as u64)
 }

@@ -2,6 +2,7 @@
 -- rules judge as full assignments do, the sentences that they are of their own as well as the written ones that they are merges of.
 use mathlib.Core.Path.{◌≡◌, refl, sym, ap, ◌∙◌, subst}
 use mathlib.Core.List.{List, map}
+use Rattle.std.specs.Prelude.{Result, Ok}
 use Prim.Native.Nat.{ℕ, suc}
 use lib.ListN.{length, take}
 use lib.IntN.{ℤ}
@@ -23,11 +24,11 @@ use Rattle.area.specs.Whole.{Whole}
 use Rattle.whole.proofs.Stored.{all_merged, well_formed, speech_restored}
 use Rattle.calls.specs.Calls.{counted, bounds_returned, listed_returned, area_state}
 use Rattle.calls.specs.declared.Bounds.{Bounds}
-use Rattle.calls.specs.declared.Listed.{Listed}
+use Rattle.calls.specs.declared.Refusal.{Refusal}
 use Rattle.calls.proofs.Effects.{reply_effect, reported_here, taken}
 use Rattle.propagate.specs.declared.Propagated.{Propagated}
 use Rattle.propagate.specs.declared.Propagated.TheVariants.{Still, Conflict}
-use Rattle.propagate.specs.Propagate.{propagated_returned, counters_of}
+use Rattle.propagate.specs.Propagate.{propagated_returned, counters_stopped}
 use Rattle.propagate.proofs.Meaning as meaning
 use Rattle.reports.proofs.Meaning as reports
 use Rattle.explain.proofs.Meaning as explain
@@ -60,31 +61,31 @@ module _ (lim : Limits) (w : List ℕ) (c : Counters) (h : Whole lim w (counted 
 
   module _ (w' : List ℕ) (ss : List Sentence) (stores : Stores w ss) where
     -- at still every sentence is satisfiable and forces no open literal
-    pub still_means : (n : ℕ) (c' : Counters) → Propagates lim w w' c (Still n c') → Each (SaysNothing (trail (rows_of w'))) ss
+    pub still_means : (n : ℕ) (c' : Counters) → Propagates lim w w' c (Ok (Still n c')) → Each (SaysNothing (trail (rows_of w'))) ss
     still_means n c' p =
         let j = judging stores in
-        meaning.still_means lim w w' (counted c) (counted c') (propagated_returned (Still n c')) p.0 h ss j.judges j.right j.alike refl
+        meaning.still_means lim w w' (counted c) (counted c') (propagated_returned (Ok (Still n c'))) p.0 h ss j.judges j.right j.alike refl
 
     -- a conflict's sentence has no agreeing assignment that satisfies it, and every lower-numbered one is silent
-    pub clash_means : (k : number.Sentence) (n : ℕ) (c' : Counters) → Propagates lim w w' c (Conflict k n c') → FirstConflict ss (trail (rows_of w')) k.0
+    pub clash_means : (k : number.Sentence) (n : ℕ) (c' : Counters) → Propagates lim w w' c (Ok (Conflict k n c')) → FirstConflict ss (trail (rows_of w')) k.0
     clash_means k n c' p =
         let j = judging stores in
-        meaning.clash_means lim w w' (counted c) (counted c') (propagated_returned (Conflict k n c')) p.0 h ss j.judges j.right j.alike p.1
+        meaning.clash_means lim w w' (counted c) (counted c') (propagated_returned (Ok (Conflict k n c'))) p.0 h ss j.judges j.right j.alike p.1
 
     -- each row put on is the first open literal that its reason forces, which is satisfiable; lower-numbered sentences are silent
-    pub derived_means : (r : Propagated) → Propagates lim w w' c r → Additions ss (level_of w) (rows_of w) (rows_of w')
+    pub derived_means : (r : Result Propagated Refusal) → Propagates lim w w' c r → Additions ss (level_of w) (rows_of w) (rows_of w')
     derived_means r p =
         let j = judging stores in
-        meaning.derived_means lim w w' (counted c) (counted (counters_of r)) (propagated_returned r) p.0 h ss j.judges j.right j.alike
+        meaning.derived_means lim w w' (counted c) (counted (counters_stopped c r)) (propagated_returned r) p.0 h ss j.judges j.right j.alike
 
   -- ---- bounds, of written sentences: those of the set as written, constant included
 
-  pub bounds_mean : (n : ℕ) (ss : List Sentence) → Each (WellFormed n) ss → theory_of w ≡ rules_of ss → (k : ℕ) (r : Bounds) → ReadsBounds lim w c k r → r.code ≡ 0
-      → (v : Extended) × (v' : Extended) × (bounds_returned r ≡ returned_by (reported (bounds_of v v'))) × Bounded ss (trail (rows_of w)) k v v'
-  bounds_mean n ss well same k r a z =
+  pub bounds_mean : (n : ℕ) (ss : List Sentence) → Each (WellFormed n) ss → theory_of w ≡ rules_of ss → (k : ℕ) (b : Bounds) → ReadsBounds lim w c k (Ok b)
+      → (v : Extended) × (v' : Extended) × (bounds_returned (Ok b) ≡ returned_by (reported (bounds_of v v'))) × Bounded ss (trail (rows_of w)) k v v'
+  bounds_mean n ss well same k b a =
       let q = area_state lim w in
       let e : (reply q (a_report (bounds k) 0)).answer ≡ (effect q (a_report (bounds k) 0)).answer =
-      ap {A = Outcome} (λ o. o.answer) (reply_effect q (a_report (bounds k) 0) (ap {A = Returned} (λ p. p.code) (sym (a.told h)) ∙ z)) in (
+      ap {A = Outcome} (λ o. o.answer) (reply_effect q (a_report (bounds k) 0) (ap {A = Returned} (λ p. p.code) (sym (a.told h)))) in (
         _,
         _,
         a.told h ∙ ap returned_by e,
@@ -93,18 +94,18 @@ module _ (lim : Limits) (w : List ℕ) (c : Counters) (h : Whole lim w (counted 
 
   -- ---- the explanation of a conflict
 
-  module _ (k : ℕ) (old new : List ℤ) (r : Listed) (a : ListsConflict lim w c k old new r) (z : r.code ≡ 0) where
+  module _ (k : ℕ) (old new : List ℤ) (count : ℕ) (a : ListsConflict lim w c k old new (Ok count)) where
     abbrev ls : List ℤ
     ls = list_of (result_of (area_state lim w) (explain_conflict k))
 
     here : (reply (area_state lim w) (a_report (explain_conflict k) (length old))).answer ≡ reported (listed ls)
-    here = reported_here lim w (counted c) h (explain_conflict k) old new (listed_returned r) a z
+    here = reported_here lim w (counted c) h (explain_conflict k) old new (listed_returned (Ok count)) a refl
 
     table_means : {ss : List Sentence} → Stores w ss → ExplainsConflict ss (rows_of w) k ls
     table_means as_rules = explain.explain_conflict_means lim w (counted c) h k (length old) ls here
     table_means (as_written n ss well same) = explain.explain_conflict_written lim w (counted c) h ss same k (length old) ls here
 
     -- a clause that its sentence alone entails, all of whose literals are false on the trail
-    pub explain_conflict_means : (ss : List Sentence) → Stores w ss → ExplainsConflict ss (rows_of w) k (take r.value new)
+    pub explain_conflict_means : (ss : List Sentence) → Stores w ss → ExplainsConflict ss (rows_of w) k (take count new)
     explain_conflict_means ss stores =
-        subst (ExplainsConflict ss (rows_of w) k) (sym (taken lim w (counted c) h (explain_conflict k) old new (listed_returned r) a z)) (table_means stores)
+        subst (ExplainsConflict ss (rows_of w) k) (sym (taken lim w (counted c) h (explain_conflict k) old new (listed_returned (Ok count)) a refl)) (table_means stores)

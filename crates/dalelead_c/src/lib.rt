@@ -9,7 +9,18 @@ ghost use Rattle.whole.specs.Parts.{counters_with};
 ghost use Rattle.columns.specs.Columns.{seven_columns};
 ghost use Rattle.c_interface.specs.Interface.{need_for, next_counters, next_counted, next_searched, Changes, ReportsBounds, ReportsList, LoadsFor};
 
-use types::Limits;
+use columns::Columns;
+use types::{Atom, Counters, Level, Limits, Sentence};
+
+// The counters that C hands over.
+fn held(length: u64, level: u64) -> Counters
+    ensures { result ≡ record { length = length; level = record { 0 = level } } }
+{
+    Counters {
+        length,
+        level: Level(level),
+    }
+}
 
 // The words that an area needs, 0 where a count is above its limit or there is no atom.
 #[unsafe(no_mangle)]
@@ -35,10 +46,7 @@ pub extern "C" fn dalelead_load(
 ) -> u64
     ensures { LoadsFor document area.old area.new atoms (seven_columns heads.now kinds.now sides.now bounds.now counts.now weights.now literals.now) next.old next.new result }
 {
-    c_load::load(
-        area,
-        Limits::document(),
-        atoms,
+    let columns = Columns {
         heads,
         kinds,
         sides,
@@ -46,8 +54,8 @@ pub extern "C" fn dalelead_load(
         counts,
         weights,
         literals,
-        next,
-    )
+    };
+    c_load::load(area, Limits::document(), Atom(atoms), columns, next)
 }
 
 // Give: a literal goes on the trail at the current level.
@@ -61,7 +69,7 @@ pub extern "C" fn dalelead_give(
 ) -> u64
     ensures { Changes document area.old area.new (counters_with length level) (give literal) next_counters next.old next.new result }
 {
-    c_calls::give(area, Limits::document(), length, level, literal, next)
+    c_interface::number(c_calls::give(area, Limits::document(), held(length, level), literal, next))
 }
 
 // Open: the level rises by one.
@@ -69,7 +77,7 @@ pub extern "C" fn dalelead_give(
 pub extern "C" fn dalelead_open(area: &mut [u64], length: u64, level: u64, next: &mut [u64]) -> u64
     ensures { Changes document area.old area.new (counters_with length level) open_level next_counters next.old next.new result }
 {
-    c_calls::open(area, Limits::document(), length, level, next)
+    c_interface::number(c_calls::open(area, Limits::document(), held(length, level), next))
 }
 
 // Take back to level k: all literals of higher levels go.
@@ -83,7 +91,13 @@ pub extern "C" fn dalelead_take_back(
 ) -> u64
     ensures { Changes document area.old area.new (counters_with length level) (take_back k) next_counters next.old next.new result }
 {
-    c_calls::take_back(area, Limits::document(), length, level, k, next)
+    c_interface::number(c_calls::take_back(
+        area,
+        Limits::document(),
+        held(length, level),
+        Level(k),
+        next,
+    ))
 }
 
 // Propagate: what follows goes on the trail. The value is the sentence in conflict, 0 at still.
@@ -96,7 +110,7 @@ pub extern "C" fn dalelead_propagate(
 ) -> u64
     ensures { Changes document area.old area.new (counters_with length level) propagate (next_counted area.old) next.old next.new result }
 {
-    c_calls::propagate(area, Limits::document(), length, level, next)
+    c_interface::number(c_calls::propagate(area, Limits::document(), held(length, level), next))
 }
 
 // The search loop over a list of literals to try. The value is the sentence in conflict, 0 where there is none.
@@ -110,7 +124,13 @@ pub extern "C" fn dalelead_search(
 ) -> u64
     ensures { Changes document area.old area.new (counters_with length level) (search literals.now) next_searched next.old next.new result }
 {
-    c_calls::search(area, Limits::document(), length, level, literals, next)
+    c_interface::number(c_calls::search(
+        area,
+        Limits::document(),
+        held(length, level),
+        literals,
+        next,
+    ))
 }
 
 // The least and the greatest value of a sentence over the full assignments that agree with the trail.
@@ -124,7 +144,13 @@ pub extern "C" fn dalelead_bounds(
 ) -> u64
     ensures { ReportsBounds document area.now (counters_with length level) (bounds sentence) out.old out.new result }
 {
-    c_reports::bounds(area, Limits::document(), length, level, sentence, out)
+    c_interface::number(c_reports::bounds(
+        area,
+        Limits::document(),
+        held(length, level),
+        Sentence(sentence),
+        out,
+    ))
 }
 
 // The literal, and the negations of its causes.
@@ -138,7 +164,13 @@ pub extern "C" fn dalelead_explain(
 ) -> u64
     ensures { ReportsList document area.now (counters_with length level) (explain literal) list.old list.new result }
 {
-    c_reports::explain(area, Limits::document(), length, level, literal, list)
+    c_interface::number(c_reports::explain(
+        area,
+        Limits::document(),
+        held(length, level),
+        literal,
+        list,
+    ))
 }
 
 // The negations of the literals that a sentence is in conflict with.
@@ -152,7 +184,13 @@ pub extern "C" fn dalelead_explain_conflict(
 ) -> u64
     ensures { ReportsList document area.now (counters_with length level) (explain_conflict sentence) list.old list.new result }
 {
-    c_reports::explain_conflict(area, Limits::document(), length, level, sentence, list)
+    c_interface::number(c_reports::explain_conflict(
+        area,
+        Limits::document(),
+        held(length, level),
+        Sentence(sentence),
+        list,
+    ))
 }
 
 // The given literals that a literal rests on.
@@ -166,7 +204,13 @@ pub extern "C" fn dalelead_origin(
 ) -> u64
     ensures { ReportsList document area.now (counters_with length level) (origin literal) list.old list.new result }
 {
-    c_reports::origin(area, Limits::document(), length, level, literal, list)
+    c_interface::number(c_reports::origin(
+        area,
+        Limits::document(),
+        held(length, level),
+        literal,
+        list,
+    ))
 }
 
 // Literal, level and reason of each row.
@@ -174,5 +218,5 @@ pub extern "C" fn dalelead_origin(
 pub extern "C" fn dalelead_trail(area: &[u64], length: u64, level: u64, list: &mut [i64]) -> u64
     ensures { ReportsList document area.now (counters_with length level) list_trail list.old list.new result }
 {
-    c_reports::trail(area, Limits::document(), length, level, list)
+    c_interface::number(c_reports::trail(area, Limits::document(), held(length, level), list))
 }

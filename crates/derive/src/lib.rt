@@ -1,17 +1,18 @@
 // The loop of propagate: one step after the other, until no sentence has anything to say or one is in conflict.
 #![tactic(auto)]
 
+ghost use Rattle.types.specs.Sentences.{number_of, Named};
 ghost use Rattle.find.specs.Inner.Find.{Searchable};
 ghost use Rattle.derive.specs.Inner.Settle.{Settleable, Settled};
 ghost use Rattle.derive.specs.Inner.Stopped.{Stopped};
 
 use find::Found;
-use types::Limits;
+use types::{Limits, Sentence};
 
-// Where the loop stops: the number of the sentence in conflict, 0 where none is, and the trail's length.
-#[derive(Clone, Copy)]
+// Where the loop stops: the sentence in conflict, and the trail's length.
+#[derive(Clone, Copy, Debug, PartialEq, Eq)]
 pub struct End {
-    pub sentence: u64,
+    pub sentence: Option<Sentence>,
     pub length: usize,
 }
 
@@ -20,32 +21,30 @@ fn settle(area: &mut [u64], n: usize, sentences: usize)
     requires { Settleable area.old n sentences }
     ensures { Settled area.old area.new n sentences }
 {
-    let mut s: usize = 0;
-    while s < sentences {
+    for s in 0..sentences {
         area::clear_pending(area, 4 * n + 8 * s);
-        s += 1;
     }
 }
 
 // On a whole area: what the lowest-numbered sentence that speaks forces is put on, with its level, reason and place, again and again.
 pub fn run(area: &mut [u64], n: usize, sentences: usize, len: usize, level: u64) -> End
     requires { (lim : Limits) × Searchable lim area.old n sentences len level }
-    ensures { (lim : Limits) → Searchable lim area.old n sentences len level → Stopped lim area.old area.new level result.length result.sentence }
+    ensures stopped { (lim : Limits) → Searchable lim area.old n sentences len level → Stopped lim area.old area.new level result.length (number_of result.sentence) }
+    ensures named { Named result.sentence }
 {
     let mut length = len;
     loop {
-        let found = find::find(area, n, sentences);
-        match found {
+        match find::find(area, n, sentences) {
             Found::Nothing => {
                 settle(area, n, sentences);
                 return End {
-                    sentence: 0,
+                    sentence: None,
                     length,
                 };
             }
             Found::Conflict(s) => {
                 return End {
-                    sentence: s as u64 + 1,
+                    sentence: Some(Sentence(s as u64 + 1)),
                     length,
                 };
             }

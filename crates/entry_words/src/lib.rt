@@ -4,23 +4,15 @@
 ghost use Rattle.std.specs.Prelude.{◌≡◌, ◌≤◌, nat_abs};
 ghost use Rattle.types.specs.Limits.{bound_limit, widest};
 ghost use Rattle.numbers.specs.Words.{bias, unbias, literal_word};
-ghost use Rattle.meaning.specs.Meaning.{mixes};
 ghost use Rattle.meaning.specs.Merge.{joined};
-ghost use Rattle.area.specs.Layout.{kind_of};
+ghost use Rattle.kinds.specs.Kinds.{meant};
 ghost use Rattle.entry_words.specs.Inner.Entries.{TurnedIs, Joinable};
 
-const HALF: u64 = 4_611_686_018_427_387_904;
-
-const SUM: u64 = 0;
-
-const PRODUCT: u64 = 1;
-
-const COUNT: u64 = 2;
-
-const MAX: u64 = 3;
+use kinds::Kind;
+use types::HALF;
 
 // An entry as it is collected, and what it adds to the constant, as words.
-#[derive(Clone, Copy)]
+#[derive(Clone, Copy, Debug, PartialEq, Eq)]
 pub struct Turned {
     pub weight: u64,
     pub literal: u64,
@@ -32,79 +24,48 @@ pub fn number_word(w: i64) -> u64
     requires { nat_abs w ≤ bound_limit }
     ensures { result ≡ bias w }
 {
-    let size = signed::size(w);
-    if signed::negative(w) {
-        return HALF - size;
+    if w.is_negative() {
+        HALF - w.unsigned_abs()
+    } else {
+        HALF + w.unsigned_abs()
     }
-    HALF + size
 }
 
 pub fn literal_word(l: i64) -> u64
     requires { nat_abs l ≤ widest.atoms }
     ensures { result ≡ literal_word l }
 {
-    let size = signed::size(l);
-    if signed::negative(l) {
-        return 2 * size + 1;
-    }
-    2 * size
-}
-
-// Whether both signs of an atom may stand in a set of the kind.
-pub fn mixing(kind: u64) -> bool
-    ensures { result ≡ mixes (kind_of kind) }
-{
-    if kind == SUM {
-        return true;
-    }
-    kind == COUNT
+    2 * l.unsigned_abs() + u64::from(l.is_negative())
 }
 
 // In sums and counts a weight w on -a is -w on a, and w in the constant.
-pub fn turn(kind: u64, x: u64, l: u64) -> Turned
+pub fn turn(kind: Kind, x: u64, l: u64) -> Turned
     requires { (x ≤ 9223372036854775808) × (2 ≤ l) × (l ≤ 8193) }
-    ensures { TurnedIs kind x l result }
+    ensures { TurnedIs (meant kind) x l result }
 {
-    if !mixing(kind) {
+    if kind.mixes() && l % 2 == 1 {
         return Turned {
-            weight: x,
-            literal: l,
-            freed: HALF,
-        };
-    }
-    if l % 2 == 0 {
-        return Turned {
-            weight: x,
-            literal: l,
-            freed: HALF,
+            weight: 2 * HALF - x,
+            literal: l - 1,
+            freed: x,
         };
     }
     Turned {
-        weight: 2 * HALF - x,
-        literal: l - 1,
-        freed: x,
+        weight: x,
+        literal: l,
+        freed: HALF,
     }
 }
 
 // The word of the weight that joins two of one literal.
-pub fn join(kind: u64, x: u64, y: u64) -> u64
-    requires { Joinable (kind_of kind) (unbias x) (unbias y) }
-    ensures { unbias result ≡ joined (kind_of kind) (unbias x) (unbias y) }
+pub fn join(kind: Kind, x: u64, y: u64) -> u64
+    requires { Joinable (meant kind) (unbias x) (unbias y) }
+    ensures { unbias result ≡ joined (meant kind) (unbias x) (unbias y) }
 {
-    if mixing(kind) {
-        return x + y - HALF;
+    match kind {
+        Kind::Sum | Kind::Count => x + y - HALF,
+        Kind::Product => HALF + (x - HALF) * (y - HALF),
+        Kind::Max => x.max(y),
+        Kind::Min => x.min(y),
     }
-    if kind == PRODUCT {
-        return HALF + (x - HALF) * (y - HALF);
-    }
-    if kind == MAX {
-        if x <= y {
-            return y;
-        }
-        return x;
-    }
-    if x <= y {
-        return x;
-    }
-    y
 }

@@ -15,7 +15,7 @@ use Rattle.meaning.specs.Meaning.{comparison}
 use Rattle.meaning.specs.Meaning as m
 use Rattle.meaning.specs.Merge.{Rule}
 use Rattle.meaning.specs.Computed.{extreme, towards, compared}
-use Rattle.extremes.specs.declared.Kind.{Kind}
+use Rattle.kinds.specs.declared.Kind.{Kind}
 use Rattle.extremes.specs.Inner.Words.{extreme_word}
 use Rattle.extremes.proofs.Values.{direction, in_top}
 use Rattle.extremes.proofs.Contributions.{ShowsIn}

@@ -19,8 +19,8 @@ use Rattle.meaning.specs.Computed.{free, fixed, standing_of, refuted_at, refuted
 use Rattle.meaning.proofs.Trails.{atom_half, opposite_atom}
 use Rattle.meaning.proofs.Verdicts.{refuted_entry}
 use Rattle.area.specs.Layout.{standing_word, entries_of}
-use Rattle.extremes.specs.declared.Kind.{Kind}
-use Rattle.extremes.specs.declared.Kind.TheVariants.{Sum, Product, Count, Max, Min}
+use Rattle.kinds.specs.declared.Kind.{Kind}
+use Rattle.kinds.specs.declared.Kind.TheVariants.{Sum, Product, Count, Max, Min}
 use Rattle.evaluate.specs.declared.Said.{Said}
 use Rattle.evaluate.specs.declared.Said.TheVariants.{Silent, Conflict, Forced}
 use Rattle.evaluate.specs.Inner.Sentence.{said_of}

@@ -16,7 +16,7 @@ use Rattle.meaning.specs.Represents.{Off}
 use Rattle.meaning.proofs.Trails.{opposite_atom, opposite_truth}
 use Rattle.meaning.proofs.Verdicts.{refuted_head, refuted_headless}
 use Rattle.area.specs.Layout.{standing_word, entries_of}
-use Rattle.extremes.specs.declared.Kind.{Kind}
+use Rattle.kinds.specs.declared.Kind.{Kind}
 use Rattle.evaluate.specs.Inner.Sentence.{said_of}
 use Rattle.extremes.specs.Inner.Words.{extreme_word}
 use Rattle.evaluate.specs.Inner.Words.{limit_word, upwards, keeps, head_says}

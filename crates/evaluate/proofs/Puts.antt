@@ -17,7 +17,7 @@ use Rattle.meaning.specs.Represents.{Off}
 use Rattle.meaning.proofs.Trails.{atom_half, standing_same, standing_other}
 use Rattle.area.specs.Layout.{standing_word, entries_of}
 use Rattle.area.specs.Whole.{DistinctAtoms}
-use Rattle.extremes.specs.declared.Kind.{Kind}
+use Rattle.kinds.specs.declared.Kind.{Kind}
 use Rattle.extremes.specs.Inner.Words.{empty_word, furthest_word, nearest_word, reach_word, contributions}
 use Rattle.evaluate.specs.Inner.Words.{opposite_word, wanted_word}
 use Rattle.extremes.proofs.Values.{sides}

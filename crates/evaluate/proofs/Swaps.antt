@@ -6,8 +6,8 @@ use Prim.Native.Nat.{ℕ, ◌+◌, ◌-◌, ◌*◌, ◌/◌, ◌≤◌, ◌<◌
 use native.Mathlib.Omega.{arith}
 use native.Mathlib.Nat.{mul_assoc, mul_comm, mul-one, mul_right_comm, div-eq_of_eq-mul_left}
 use Rattle.numbers.specs.Words.{half}
-use Rattle.extremes.specs.declared.Kind.{Kind}
-use Rattle.extremes.specs.declared.Kind.TheVariants.{Product}
+use Rattle.kinds.specs.declared.Kind.{Kind}
+use Rattle.kinds.specs.declared.Kind.TheVariants.{Product}
 use Rattle.extremes.specs.Inner.Words.{combined, folded}
 use Rattle.extremes.specs.Inner.Room.{Steps, Room}
 

@@ -5,8 +5,8 @@ use mathlib.Core.List.{List, [], ◌∷◌}
 use Prim.Native.Nat.{ℕ, ◌+◌, ◌/◌, ◌≤◌, ◌<◌}
 use native.Mathlib.Omega.{arith}
 use Rattle.numbers.specs.Words.{half, top}
-use Rattle.extremes.specs.declared.Kind.{Kind}
-use Rattle.extremes.specs.declared.Kind.TheVariants.{Sum, Product, Count, Max, Min}
+use Rattle.kinds.specs.declared.Kind.{Kind}
+use Rattle.kinds.specs.declared.Kind.TheVariants.{Sum, Product, Count, Max, Min}
 use Rattle.extremes.specs.Inner.Words.{empty_word, start_word, furthest_word, nearest_word, folded, extreme_word}
 use Rattle.evaluate.specs.Inner.Words.{scaled, opposite_word, wanted_word}
 use Rattle.extremes.specs.Inner.Room.{Room}

@@ -11,8 +11,8 @@ use lib.Dec.{eqb, leb}
 use borrow.Author.Tests.{leb-true, leb-false, le-leb, lt-leb, not-true}
 use Rattle.numbers.specs.Words.{half, top}
 use Rattle.numbers.proofs.Words.{cases}
-use Rattle.extremes.specs.declared.Kind.{Kind}
-use Rattle.extremes.specs.declared.Kind.TheVariants.{Sum, Product, Count, Max, Min}
+use Rattle.kinds.specs.declared.Kind.{Kind}
+use Rattle.kinds.specs.declared.Kind.TheVariants.{Sum, Product, Count, Max, Min}
 use Rattle.extremes.specs.Inner.Words.{empty_word, start_word, furthest_word, nearest_word, folded}
 use Rattle.evaluate.specs.Inner.Words.{best_kind, second_best, keeps, shifted, scaled, turns_word, leaves_second}
 use Rattle.extremes.specs.Inner.Room.{Room}

@@ -10,10 +10,9 @@ use lib.Dec.{eqb}
 use borrow.Author.Tests.{ne_eqb}
 use Rattle.meaning.specs.Computed.{free, fixed, first_said}
 use Rattle.area.specs.Layout.{head_at, kind_at, upper_at, bound_at, constant_at, written_at, merged_at, entry_at, entry_words, value_at, kind_of}
-use Rattle.extremes.specs.declared.Kind.{Kind}
+use Rattle.kinds.specs.declared.Kind.{Kind}
 use Rattle.extremes.specs.Inner.Stored.{Shows, EvaluateReady, ExtremesAre}
 use Rattle.extremes.specs.Inner.Words.{meant, empty_word}
-use Rattle.extremes.specs.Inner.Room.{Entries}
 use Rattle.extremes.proofs.Values.{coded}
 use Rattle.extremes.proofs.Contributions.{Legal}
 use Rattle.extremes.proofs.Sound.{rule_words, Sound}
@@ -48,11 +47,6 @@ low_scanned k n u limit e v (w ∷ []) g = tt
 low_scanned k n u limit e v (w ∷ l ∷ rest) g =
     low_cond (eqb (v (l / 2)) 0 && turns_word k u limit e w) (Said.Forced (wanted_word u (empty_word k) w l)) (scanned k u limit e v rest)
     (wanted_is u (empty_word k) w l g.0.literal).real (low_scanned k n u limit e v rest g.1)
-
--- the entries, where the words are those that were read
-pub entries_read : {w : List ℕ} {n S b kind start merged : ℕ} (k : Kind) → EvaluateReady w n S b → meant k ≡ kind_of kind → kind ≡ kind_at w b
-    → start ≡ entry_at w n S b → merged ≡ merged_at w b → Entries w start merged n
-entries_read k ready e q s m = rw (s, m) (entries_at k ready (e ∙ ap kind_of q))
 
 -- ---- the answers
 

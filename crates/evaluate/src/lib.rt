@@ -8,16 +8,17 @@ ghost use Rattle.extremes.specs.Inner.Stored.{EvaluateReady, ExtremesAre};
 ghost use Rattle.extremes.specs.Inner.Words.{empty_word};
 ghost use Rattle.extremes.specs.Inner.Room.{Entries};
 ghost use Rattle.evaluate.specs.Inner.Sentence.{SaidIs};
-ghost use Rattle.evaluate.specs.Inner.Words.{second_word, limit_at, scanned, wanted_word};
+ghost use Rattle.evaluate.specs.Inner.Words.{best_kind, second_word, limit_at, scanned, wanted_word};
 ghost use Rattle.evaluate.specs.Inner.Room.{Turns, Turnable};
 ghost use Rattle.evaluate.specs.Inner.Known.{turns_open, head_known, body_known, KnownIs};
 
-use extremes::Kind;
+use extremes::Extremes;
+use kinds::{Aggregate, Kind, Max, Min};
 
 mod steps;
 
 // What a sentence says first: nothing, that it is in conflict, or a forced open literal, as a word.
-#[derive(Clone, Copy)]
+#[derive(Clone, Copy, Debug, PartialEq, Eq)]
 pub enum Said {
     Silent,
     Conflict,
@@ -26,7 +27,7 @@ pub enum Said {
 
 // Entries that are to be scanned, under a fixed head: the direction of its truth, the comparison's limit, the extreme in that direction,
 // and where the entries start.
-#[derive(Clone, Copy)]
+#[derive(Clone, Copy, Debug, PartialEq, Eq)]
 pub struct Body {
     pub kind: Kind,
     pub up: bool,
@@ -37,7 +38,7 @@ pub struct Body {
 }
 
 // What a sentence says before its entries are scanned: nothing, that it is in conflict, a forced literal of its head, or that the scan decides.
-#[derive(Clone, Copy)]
+#[derive(Clone, Copy, Debug, PartialEq, Eq)]
 pub enum Known {
     Silent,
     Conflict,
@@ -45,25 +46,25 @@ pub enum Known {
     Undecided(Body),
 }
 
+// The value over no weight of a maximum up, of a minimum down.
+fn none_of(up: bool) -> u64
+    ensures { result ≡ empty_word (best_kind up) }
+{
+    if up { Max::empty() } else { Min::empty() }
+}
+
 // The second best of a maximum up, of a minimum down.
 fn second(area: &[u64], up: bool, start: usize, count: usize, n: usize) -> u64
     requires { Entries area.now start count n }
     ensures { result ≡ second_word up (value_at area.now n) (entry_words area.now start count) }
 {
-    let none = if up {
-        kinds::Max::empty()
-    } else {
-        kinds::Min::empty()
-    };
+    let none = none_of(up);
     let mut best = none;
     let mut next = none;
-    let mut i: usize = 0;
-    while i < count {
-        let e = extremes::entry_in(area, start, n, i);
-        let x = steps::reach(up, none, e.weight, e.literal, e.value);
+    for i in 0..count {
+        let x = steps::reach(up, none, extremes::entry_in(area, start, n, i));
         next = extremes::furthest(up, next, steps::nearest(up, best, x));
         best = extremes::furthest(up, best, x);
-        i += 1;
     }
     next
 }
@@ -73,11 +74,7 @@ pub fn entry_turns(body: Body, w: u64, v: u64) -> bool
     requires { v ≡ 0 → Turns body.kind body.up body.extreme w }
     ensures { result ≡ turns_open body w v }
 {
-    let kind = body.kind;
-    if v == 0 {
-        return steps::turn(kind, body.up, body.limit, body.extreme, w);
-    }
-    false
+    v == 0 && steps::turn(body.kind, body.up, body.limit, body.extreme, w)
 }
 
 // The literal of that entry that is then forced.
@@ -85,8 +82,7 @@ pub fn entry_wanted(body: Body, w: u64, l: u64) -> u64
     requires { (2 ≤ l) × (l < top) }
     ensures { result ≡ wanted_word body.up (empty_word body.kind) w l }
 {
-    let kind = body.kind;
-    steps::wanted(body.up, extremes::empty(kind), w, l)
+    steps::wanted(body.up, body.kind.empty(), w, l)
 }
 
 // The first open entry that turns.
@@ -95,53 +91,36 @@ fn scan(area: &[u64], body: Body, n: usize) -> Said
     requires turnable { Turnable body.kind body.up body.extreme (value_at area.now n) (entry_words area.now body.start body.merged) }
     ensures { result ≡ scanned body.kind body.up body.limit body.extreme (value_at area.now n) (entry_words area.now body.start body.merged) }
 {
-    let start = body.start;
-    let count = body.merged;
-    let mut i: usize = 0;
-    while i < count {
-        let e = extremes::entry_in(area, start, n, i);
+    for i in 0..body.merged {
+        let e = extremes::entry_in(area, body.start, n, i);
         if entry_turns(body, e.weight, e.value) {
             return Said::Forced(entry_wanted(body, e.weight, e.literal));
         }
-        i += 1;
     }
     Said::Silent
 }
 
-// With the head fixed: e is the extreme towards its truth, and o the other.
-fn of_body(
-    area: &[u64],
-    kind: Kind,
-    up: bool,
-    limit: u64,
-    e: u64,
-    o: u64,
-    start: usize,
-    count: usize,
-    n: usize,
-) -> Known
-    requires { Entries area.now start count n }
-    ensures { result ≡ body_known kind up limit e o (value_at area.now n) area.now start count }
+// With the head fixed: the body's extreme is the one towards its truth, and `other` the other.
+fn of_body(area: &[u64], body: Body, other: u64, n: usize) -> Known
+    requires { Entries area.now body.start body.merged n }
+    ensures { result ≡ body_known body.kind body.up body.limit body.extreme other (value_at area.now n) area.now body.start body.merged }
 {
-    if !steps::keep(up, limit, e) {
+    if !steps::keep(body.up, body.limit, body.extreme) {
         return Known::Conflict;
     }
-    if steps::keep(up, limit, o) {
+    if steps::keep(body.up, body.limit, other) {
         return Known::Silent;
     }
-    if steps::leaves_second(kind, up) {
-        if steps::keep(up, limit, second(area, up, start, count, n)) {
-            return Known::Silent;
-        }
+    if steps::leaves_second(body.kind, body.up)
+        && steps::keep(
+            body.up,
+            body.limit,
+            second(area, body.up, body.start, body.merged, n),
+        )
+    {
+        return Known::Silent;
     }
-    Known::Undecided(Body {
-        kind,
-        up,
-        limit,
-        extreme: e,
-        start,
-        merged: count,
-    })
+    Known::Undecided(body)
 }
 
 // With the head open: whether the comparison holds, or fails, whatever comes.
@@ -150,12 +129,12 @@ fn of_head(holds: bool, fails: bool, head: u64) -> Known
     ensures { result ≡ head_known holds fails head }
 {
     if holds {
-        return Known::Forced(2 * head);
+        Known::Forced(2 * head)
+    } else if fails {
+        Known::Forced(2 * head + 1)
+    } else {
+        Known::Silent
     }
-    if fails {
-        return Known::Forced(2 * head + 1);
-    }
-    Known::Silent
 }
 
 // The first word on the far side of the comparison of the sentence at `base`.
@@ -165,22 +144,16 @@ fn limit_at(area: &[u64], base: usize) -> u64
 {
     let bound = area::bound_at(area, base);
     if area::upper_at(area, base) {
-        return bound + 1;
+        bound + 1
+    } else {
+        bound
     }
-    bound
 }
 
 // What that sentence says before its entries are scanned, where its extremes are known.
-pub fn look(
-    area: &[u64],
-    n: usize,
-    sentences: usize,
-    base: usize,
-    least: u64,
-    greatest: u64,
-) -> Known
+pub fn look(area: &[u64], n: usize, sentences: usize, base: usize, found: Extremes) -> Known
     requires evaluate_ready { EvaluateReady area.now n sentences base }
-    requires extremes_are { ExtremesAre area.now n sentences base (record { least = least; greatest = greatest }) }
+    requires extremes_are { ExtremesAre area.now n sentences base found }
     ensures { KnownIs area.now n sentences base result }
 {
     let head = area::head_at(area, base);
@@ -188,79 +161,56 @@ pub fn look(
     let limit = limit_at(area, base);
     let v = area::value_at(area, n, head as usize);
     if v == 0 {
-        if upper {
-            return of_head(
-                !steps::keep(true, limit, greatest),
-                !steps::keep(false, limit, least),
-                head,
-            );
-        }
+        // It holds where it cannot come to fail, and fails where it cannot come to hold.
+        let failing = steps::upwards(upper, false);
+        let holding = steps::upwards(upper, true);
         return of_head(
-            !steps::keep(false, limit, least),
-            !steps::keep(true, limit, greatest),
+            !steps::keep(failing, limit, found.towards(failing)),
+            !steps::keep(holding, limit, found.towards(holding)),
             head,
         );
     }
-    let kind = extremes::kind_of(area::kind_at(area, base));
-    let start = area::entry_at(area, n, sentences, base);
-    let merged = area::merged_at(area, base);
-    if steps::upwards(upper, v % 2 == 1) {
-        return of_body(area, kind, true, limit, greatest, least, start, merged, n);
-    }
-    of_body(area, kind, false, limit, least, greatest, start, merged, n)
+    let up = steps::upwards(upper, v % 2 == 1);
+    let body = Body {
+        kind: area::kind_at(area, base),
+        up,
+        limit,
+        extreme: found.towards(up),
+        start: area::entry_at(area, n, sentences, base),
+        merged: area::merged_at(area, base),
+    };
+    of_body(area, body, found.towards(!up), n)
 }
 
 // Whether the extremes alone show that the sentence has nothing to say: its head is open and the comparison too, or its head is fixed and
 // the comparison is sure to have its truth.
-pub fn settled(
-    area: &[u64],
-    n: usize,
-    sentences: usize,
-    base: usize,
-    least: u64,
-    greatest: u64,
-) -> bool
+pub fn settled(area: &[u64], n: usize, sentences: usize, base: usize, found: Extremes) -> bool
     requires evaluate_ready { EvaluateReady area.now n sentences base }
-    requires extremes_are { ExtremesAre area.now n sentences base (record { least = least; greatest = greatest }) }
+    requires extremes_are { ExtremesAre area.now n sentences base found }
     ensures { result ≡ true → SaidIs area.now n sentences base Said.Silent }
 {
     let limit = limit_at(area, base);
-    let sure = limit <= least;
-    let possible = limit <= greatest;
+    let sure = limit <= found.least;
+    let possible = limit <= found.greatest;
     let head = area::head_at(area, base);
     let v = area::value_at(area, n, head as usize);
     if v == 0 {
-        if sure {
-            return false;
-        }
-        return possible;
+        return possible && !sure;
     }
     if steps::upwards(area::upper_at(area, base), v % 2 == 1) {
-        if sure {
-            return possible;
-        }
-        return false;
+        sure && possible
+    } else {
+        !sure && !possible
     }
-    if sure {
-        return false;
-    }
-    !possible
 }
 
 // What that sentence says first, where its extremes are known.
-pub fn says(
-    area: &[u64],
-    n: usize,
-    sentences: usize,
-    base: usize,
-    least: u64,
-    greatest: u64,
-) -> Said
+pub fn says(area: &[u64], n: usize, sentences: usize, base: usize, found: Extremes) -> Said
     requires evaluate_ready { EvaluateReady area.now n sentences base }
-    requires extremes_are { ExtremesAre area.now n sentences base (record { least = least; greatest = greatest }) }
+    requires extremes_are { ExtremesAre area.now n sentences base found }
     ensures { SaidIs area.now n sentences base result }
 {
-    match look(area, n, sentences, base, least, greatest) {
+    match look(area, n, sentences, base, found) {
         Known::Silent => Said::Silent,
         Known::Conflict => Said::Conflict,
         Known::Forced(l) => Said::Forced(l),

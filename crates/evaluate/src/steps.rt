@@ -5,30 +5,26 @@ ghost use Rattle.extremes.specs.Inner.Words.{nearest_word, reach_word};
 ghost use Rattle.evaluate.specs.Inner.Words.{upwards, keeps, shifted, scaled, turns_word, wanted_word, leaves_second};
 ghost use Rattle.evaluate.specs.Inner.Room.{Turns};
 
-use extremes::Kind;
-
-const HALF: u64 = 4_611_686_018_427_387_904;
+use extremes::EntryWords;
+use kinds::Kind;
+use types::HALF;
 
 pub fn nearest(up: bool, a: u64, b: u64) -> u64
     ensures { result ≡ nearest_word up a b }
 {
-    if up {
-        if a < b { a } else { b }
-    } else {
-        if a < b { b } else { a }
-    }
+    if up { a.min(b) } else { a.max(b) }
 }
 
 // What an entry contributes at its furthest.
-pub fn reach(up: bool, empty: u64, w: u64, l: u64, v: u64) -> u64
-    ensures { result ≡ reach_word up empty w l v }
+pub fn reach(up: bool, empty: u64, e: EntryWords) -> u64
+    ensures { result ≡ reach_word up empty e.weight e.literal e.value }
 {
-    if v == 0 {
-        extremes::furthest(up, w, empty)
-    } else if v % 2 == l % 2 {
+    if e.value == 0 {
+        extremes::furthest(up, e.weight, empty)
+    } else if e.value % 2 == e.literal % 2 {
         empty
     } else {
-        w
+        e.weight
     }
 }
 
@@ -36,10 +32,7 @@ pub fn reach(up: bool, empty: u64, w: u64, l: u64, v: u64) -> u64
 pub fn keep(up: bool, limit: u64, e: u64) -> bool
     ensures { result ≡ keeps up limit e }
 {
-    if up {
-        return limit <= e;
-    }
-    !(limit <= e)
+    if up { limit <= e } else { e < limit }
 }
 
 // The direction in which the comparison comes to have the truth.
@@ -61,9 +54,10 @@ fn scale(up: bool, e: u64, w: u64) -> u64
     ensures { result ≡ scaled up e w }
 {
     if up {
-        return HALF + (e - HALF) / (w - HALF);
+        HALF + (e - HALF) / (w - HALF)
+    } else {
+        HALF + (e - HALF) * (w - HALF)
     }
-    HALF + (e - HALF) * (w - HALF)
 }
 
 // Whether the comparison loses its truth with an open entry of weight w the other way.
@@ -72,9 +66,8 @@ pub fn turn(kind: Kind, up: bool, limit: u64, e: u64, w: u64) -> bool
     ensures { result ≡ turns_word kind up limit e w }
 {
     match kind {
-        Kind::Sum => !keep(up, limit, shift(up, e, w)),
+        Kind::Sum | Kind::Count => !keep(up, limit, shift(up, e, w)),
         Kind::Product => !keep(up, limit, scale(up, e, w)),
-        Kind::Count => !keep(up, limit, shift(up, e, w)),
         Kind::Max => if up { w == e } else { !keep(up, limit, w) },
         Kind::Min => if up { !keep(up, limit, w) } else { w == e },
     }
@@ -86,9 +79,12 @@ pub fn wanted(up: bool, empty: u64, w: u64, l: u64) -> u64
     ensures { result ≡ wanted_word up empty w l }
 {
     if extremes::furthest(up, w, empty) == w {
-        return l;
+        l
+    } else if l % 2 == 0 {
+        l + 1
+    } else {
+        l - 1
     }
-    if l % 2 == 0 { l + 1 } else { l - 1 }
 }
 
 // Whether a turned entry leaves the second best.
@@ -96,9 +92,7 @@ pub fn leaves_second(kind: Kind, up: bool) -> bool
     ensures { result ≡ leaves_second kind up }
 {
     match kind {
-        Kind::Sum => false,
-        Kind::Product => false,
-        Kind::Count => false,
+        Kind::Sum | Kind::Product | Kind::Count => false,
         Kind::Max => up,
         Kind::Min => !up,
     }

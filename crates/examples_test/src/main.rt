@@ -3,57 +3,54 @@
 // and on a ring of 256 sentences.
 #![tactic(auto)]
 
+use calls::{Bound, Refusal};
+use columns::Columns;
+use search::Searched;
+use std::io;
 use types::{Atom, Counters, Level, Sentence};
 
 // A bound: its number, or which infinite one it is.
-fn bound(mark: u64, x: i64) {
-    if mark == 1 {
-        io::write_all(1, b"below");
-    } else if mark == 2 {
-        io::write_all(1, b"above");
-    } else {
-        test_parts::signed_number(x);
+fn show_bound(rt: &impl Print, bound: Bound) -> io::Result<()> {
+    match bound {
+        Bound::BelowAll => print!(rt; " below"),
+        Bound::AboveAll => print!(rt; " above"),
+        Bound::Number(z) => print!(rt; " {z}"),
     }
 }
 
-fn show_bounds(area: &[u64], counters: Counters) {
-    let b = dalelead::bounds(area, counters, Sentence(1));
-    io::write_all(1, b"bounds ");
-    io::print_decimal(1, b.code);
-    test_parts::space();
-    bound(b.least_mark, b.least);
-    test_parts::space();
-    bound(b.greatest_mark, b.greatest);
-    test_parts::line();
-}
-
-fn show_list(list: &[i64]) {
-    let mut i = 0;
-    while i < list.len() {
-        test_parts::space();
-        test_parts::signed_number(list[i]);
-        i += 1;
+fn show_bounds(rt: &impl Print, area: &[u64], counters: Counters) -> io::Result<()> {
+    match dalelead::bounds(area, counters, Sentence(1)) {
+        Ok(bounds) => {
+            print!(rt; "bounds 0")?;
+            show_bound(rt, bounds.least)?;
+            show_bound(rt, bounds.greatest)?;
+            println!(rt)
+        }
+        Err(refusal) => println!(rt; "bounds {} 0 0", refusal.code()),
     }
-    test_parts::line();
 }
 
-fn show_trail(area: &[u64], counters: Counters) {
+fn show_list(rt: &impl Print, list: &[i64]) -> io::Result<()> {
+    for number in list {
+        print!(rt; " {number}")?;
+    }
+    println!(rt)
+}
+
+fn show_trail(rt: &impl Print, area: &[u64], counters: Counters) -> io::Result<()> {
     let mut list = [0i64; 18];
-    let r = dalelead::list_trail(area, counters, &mut list);
-    io::write_all(1, b"trail ");
-    io::print_decimal(1, r.code);
-    test_parts::space();
-    io::print_decimal(1, r.value);
-    let n = r.value as usize;
-    if n <= 18 {
-        show_list(&list[0..n]);
-    } else {
-        test_parts::line();
+    match dalelead::list_trail(area, counters, &mut list) {
+        Ok(length) => {
+            print!(rt; "trail 0 {length}")?;
+            show_list(rt, &list[..length.min(18) as usize])
+        }
+        Err(refusal) => println!(rt; "trail {} {}", refusal.code(), refusal.value()),
     }
 }
 
 // One sentence over six atoms, and the literals given.
 fn example(
+    rt: &impl Print,
     head: u64,
     kind: u64,
     side: u64,
@@ -61,243 +58,215 @@ fn example(
     weights: &[i64],
     literals: &[i64],
     given: &[i64],
-) {
+) -> io::Result<()> {
     let mut area = [0u64; 64];
-    let heads = [head; 1];
-    let kinds = [kind; 1];
-    let sides = [side; 1];
-    let bounds = [limit; 1];
-    let counts = [weights.len() as u64; 1];
-    let loaded = dalelead::load(
+    let answer = dalelead::load(
         &mut area,
         Atom(6),
-        &heads,
-        &kinds,
-        &sides,
-        &bounds,
-        &counts,
-        weights,
-        literals,
+        Columns {
+            heads: &[head],
+            kinds: &[kind],
+            sides: &[side],
+            bounds: &[limit],
+            counts: &[weights.len() as u64],
+            weights,
+            literals,
+        },
     );
-    io::write_all(1, b"load ");
-    io::print_decimal(1, loaded.code);
-    test_parts::line();
-    let now = test_parts::give_all(&mut area, given);
-    show_bounds(&area, now);
-    let after = test_parts::show_propagate(&mut area, now);
-    show_trail(&area, after);
-    show_bounds(&area, after);
+    println!(rt; "load {}", test_parts::loaded(answer).0)?;
+    let now = test_parts::give_all(rt, &mut area, given)?;
+    show_bounds(rt, &area, now)?;
+    let after = test_parts::show_propagate(rt, &mut area, now)?;
+    show_trail(rt, &area, after)?;
+    show_bounds(rt, &area, after)
 }
 
-fn sums() {
+fn sums(rt: &impl Print) -> io::Result<()> {
     let weights = [-5i64, -2, 0, 1, 9];
     let literals = [1i64, 2, 3, 4, 5];
-    io::write_all(1, b"M1\n");
-    example(6, 0, 0, 3, &weights, &literals, &[-4i64, 5]);
-    io::write_all(1, b"M2\n");
-    example(6, 0, 0, 3, &weights, &literals, &[6i64, 1]);
-    io::write_all(1, b"M3\n");
-    example(
-        3,
-        0,
-        0,
-        0,
-        &[-5i64, -2, 2, 5],
-        &[1i64, -1, 2, 2],
-        &[0i64; 0],
-    );
-    let two = [1i64, 2];
-    io::write_all(1, b"M4\n");
-    example(3, 0, 1, 1, &two, &two, &[3i64, 1]);
-    io::write_all(1, b"M5\n");
-    example(3, 0, 1, 1, &two, &two, &[3i64, 1, 2]);
+    println!(rt; "M1")?;
+    example(rt, 6, 0, 0, 3, &weights, &literals, &[-4, 5])?;
+    println!(rt; "M2")?;
+    example(rt, 6, 0, 0, 3, &weights, &literals, &[6, 1])?;
+    println!(rt; "M3")?;
+    example(rt, 3, 0, 0, 0, &[-5, -2, 2, 5], &[1, -1, 2, 2], &[])?;
+    println!(rt; "M4")?;
+    example(rt, 3, 0, 1, 1, &[1, 2], &[1, 2], &[3, 1])?;
+    println!(rt; "M5")?;
+    example(rt, 3, 0, 1, 1, &[1, 2], &[1, 2], &[3, 1, 2])
 }
 
-fn extremes() {
-    let none = [0i64; 0];
-    io::write_all(1, b"M6\n");
-    example(1, 3, 1, 0, &none, &none, &none);
-    io::write_all(1, b"M7\n");
-    example(1, 3, 0, 0, &none, &none, &none);
-    io::write_all(1, b"M8\n");
-    example(3, 3, 0, 0, &[0i64, -4], &[1i64, 2], &[3i64]);
-    io::write_all(1, b"M9\n");
-    example(3, 4, 0, 6, &[5i64, 8], &[1i64, 2], &[-1i64]);
-    io::write_all(1, b"M10\n");
-    example(3, 1, 1, 5, &[2i64, 3], &[1i64, 2], &[3i64]);
-    example(3, 1, 1, 5, &[2i64, 3], &[1i64, 2], &[3i64, 1]);
+fn extremes(rt: &impl Print) -> io::Result<()> {
+    println!(rt; "M6")?;
+    example(rt, 1, 3, 1, 0, &[], &[], &[])?;
+    println!(rt; "M7")?;
+    example(rt, 1, 3, 0, 0, &[], &[], &[])?;
+    println!(rt; "M8")?;
+    example(rt, 3, 3, 0, 0, &[0, -4], &[1, 2], &[3])?;
+    println!(rt; "M9")?;
+    example(rt, 3, 4, 0, 6, &[5, 8], &[1, 2], &[-1])?;
+    println!(rt; "M10")?;
+    example(rt, 3, 1, 1, 5, &[2, 3], &[1, 2], &[3])?;
+    example(rt, 3, 1, 1, 5, &[2, 3], &[1, 2], &[3, 1])
 }
 
 // M11: derived at level 1, taken back, and derived again at level 0.
-fn again() {
+fn again(rt: &impl Print) -> io::Result<()> {
+    println!(rt; "M11")?;
     let mut area = [0u64; 64];
-    let two = [1i64, 2];
-    let heads = [3u64];
-    let kinds = [0u64];
-    let sides = [1u64];
-    let bounds = [1i64];
-    let counts = [2u64];
-    dalelead::load(
+    let _ = dalelead::load(
         &mut area,
         Atom(3),
-        &heads,
-        &kinds,
-        &sides,
-        &bounds,
-        &counts,
-        &two,
-        &two,
+        Columns {
+            heads: &[3],
+            kinds: &[0],
+            sides: &[1],
+            bounds: &[1],
+            counts: &[2],
+            weights: &[1, 2],
+            literals: &[1, 2],
+        },
     );
-    let given = test_parts::give_all(&mut area, &[3i64, 1]);
+    let given = test_parts::give_all(rt, &mut area, &[3, 1])?;
     let opened = dalelead::open_level(&mut area, given);
-    io::write_all(1, b"open ");
-    io::print_decimal(1, opened.code);
-    test_parts::line();
-    let level = opened.counters;
-    let derived = test_parts::show_propagate(&mut area, level);
-    show_trail(&area, derived);
+    println!(rt; "open {}", test_parts::code(opened))?;
+    let level = opened.unwrap_or(given);
+    let derived = test_parts::show_propagate(rt, &mut area, level)?;
+    show_trail(rt, &area, derived)?;
     let back = dalelead::take_back(&mut area, derived, Level(0));
-    io::write_all(1, b"take back ");
-    io::print_decimal(1, back.code);
-    test_parts::line();
-    let left = back.counters;
-    show_bounds(&area, left);
-    let after = test_parts::show_propagate(&mut area, left);
-    show_trail(&area, after);
+    println!(rt; "take back {}", test_parts::code(back))?;
+    let left = back.unwrap_or(derived);
+    show_bounds(rt, &area, left)?;
+    let after = test_parts::show_propagate(rt, &mut area, left)?;
+    show_trail(rt, &area, after)
 }
 
 // M12: two sentences that refer to each other.
-fn ring_of_two() {
+fn ring_of_two(rt: &impl Print) -> io::Result<()> {
+    println!(rt; "M12")?;
     let mut area = [0u64; 28];
     test_parts::load_two(&mut area);
-    let given = test_parts::give_all(&mut area, &[1i64]);
-    let after = test_parts::show_propagate(&mut area, given);
-    show_trail(&area, after);
+    let given = test_parts::give_all(rt, &mut area, &[1])?;
+    let after = test_parts::show_propagate(rt, &mut area, given)?;
+    show_trail(rt, &area, after)
 }
 
-// Whether two lists of words are the same.
-fn same(a: &[u64], b: &[u64]) -> bool {
-    if a.len() != b.len() {
-        return false;
+fn show_search(
+    rt: &impl Print,
+    counters: Counters,
+    answer: Result<Searched, Refusal>,
+) -> io::Result<()> {
+    match answer {
+        Ok(end) => println!(rt;
+            "search 0 {} {} {} {} {}",
+            end.sentence.map_or(0, |k| k.0),
+            end.count,
+            end.gone,
+            end.counters.length,
+            end.counters.level.0
+        ),
+        Err(refusal) => println!(rt;
+            "search {} 0 0 0 {} {}",
+            refusal.code(),
+            counters.length,
+            counters.level.0
+        ),
     }
-    let mut i = 0;
-    while i < a.len() {
-        if a[i] != b[i] {
-            return false;
-        }
-        i += 1;
-    }
-    true
 }
 
-fn show_same(a: &[u64], b: &[u64]) {
-    if same(a, b) {
-        io::write_all(1, b"words kept\n");
+fn show_search_of(
+    rt: &impl Print,
+    area: &mut [u64],
+    counters: Counters,
+    literals: &[i64],
+) -> io::Result<()> {
+    show_search(rt, counters, dalelead::search(area, counters, literals))
+}
+
+fn show_same(rt: &impl Print, a: &[u64], b: &[u64]) -> io::Result<()> {
+    if a == b {
+        println!(rt; "words kept")
     } else {
-        io::write_all(1, b"words changed\n");
+        println!(rt; "words changed")
     }
 }
 
 // On a ring of two: 10 for the list's last literal changes no word; without it the search goes through the list, the second literal passed over.
-fn refused_list() {
+fn refused_list(rt: &impl Print) -> io::Result<()> {
     let mut area = [0u64; 28];
     test_parts::load_two(&mut area);
     let before = area;
-    show_search(dalelead::search(&mut area, test_parts::start(), &[1i64, -2, 3]));
-    show_same(&area, &before);
-    show_search(dalelead::search(&mut area, test_parts::start(), &[1i64, -2, 2]));
-    show_same(&area, &before);
+    show_search_of(rt, &mut area, Counters::start(), &[1, -2, 3])?;
+    show_same(rt, &area, &before)?;
+    show_search_of(rt, &mut area, Counters::start(), &[1, -2, 2])?;
+    show_same(rt, &area, &before)
 }
 
 // Open 1,025 times: the number of levels opened, and the last answer.
-fn open_all(area: &mut [u64]) -> Counters {
-    let mut now = test_parts::start();
+fn open_all(rt: &impl Print, area: &mut [u64]) -> io::Result<Counters> {
+    let mut now = Counters::start();
     let mut opened: u64 = 0;
-    let mut code: u64 = 0;
-    let mut turn = 0;
-    while turn < 1025 {
-        let r = dalelead::open_level(area, now);
-        turn += 1;
-        code = r.code;
-        if code == 0 {
-            opened = turn;
+    let mut last: u64 = 0;
+    for turn in 0..1025u64 {
+        let answer = dalelead::open_level(area, now);
+        last = test_parts::code(answer);
+        if let Ok(next) = answer {
+            now = next;
+            opened = turn + 1;
         }
-        let next = r.counters;
-        now = next;
     }
-    io::write_all(1, b"levels ");
-    io::print_decimal(1, opened);
-    test_parts::space();
-    io::print_decimal(1, code);
-    test_parts::line();
-    now
+    println!(rt; "levels {opened} {last}")?;
+    Ok(now)
 }
 
 // At the highest level an open literal ends the search, with no refusal, and one that is on the trail is passed over.
-fn levels() {
+fn levels(rt: &impl Print) -> io::Result<()> {
     let mut area = [0u64; 4];
-    let none = [0u64; 0];
-    let nothing = [0i64; 0];
-    dalelead::load(
+    let _ = dalelead::load(
         &mut area,
         Atom(1),
-        &none,
-        &none,
-        &none,
-        &nothing,
-        &none,
-        &nothing,
-        &nothing,
+        Columns {
+            heads: &[],
+            kinds: &[],
+            sides: &[],
+            bounds: &[],
+            counts: &[],
+            weights: &[],
+            literals: &[],
+        },
     );
-    let top = open_all(&mut area);
-    show_search(dalelead::search(&mut area, top, &[1i64]));
-    let given = test_parts::give_one(&mut area, top, 1);
-    show_search(dalelead::search(&mut area, given, &[-1i64, 1]));
+    let top = open_all(rt, &mut area)?;
+    show_search_of(rt, &mut area, top, &[1])?;
+    let given = test_parts::give_one(rt, &mut area, top, 1)?;
+    show_search_of(rt, &mut area, given, &[-1, 1])
 }
 
-fn show_search(r: search::Searched) {
-    let sentence = r.sentence;
-    let counters = r.counters;
-    let level = counters.level;
-    io::write_all(1, b"search ");
-    io::print_decimal(1, r.code);
-    test_parts::space();
-    io::print_decimal(1, sentence.0);
-    test_parts::space();
-    io::print_decimal(1, r.count);
-    test_parts::space();
-    io::print_decimal(1, r.gone);
-    test_parts::space();
-    io::print_decimal(1, counters.length);
-    test_parts::space();
-    io::print_decimal(1, level.0);
-    test_parts::line();
+fn load_ring(rt: &impl Print, area: &mut [u64]) -> io::Result<()> {
+    println!(rt; "ring {}", test_parts::load_ring(area))
 }
 
 // Sentence i: head i, 1 <= sum {(1, the next head)}. One atom given, the others follow round the ring; then searches on it.
-fn ring() {
+fn ring(rt: &impl Print) -> io::Result<()> {
     let mut area = [0u64; 3584];
-    test_parts::load_ring(&mut area);
-    let given = test_parts::give_all(&mut area, &[1i64]);
-    test_parts::show_propagate(&mut area, given);
-    test_parts::load_ring(&mut area);
-    show_search(dalelead::search(&mut area, test_parts::start(), &[7i64, 7, 8]));
-    test_parts::load_ring(&mut area);
-    show_search(dalelead::search(&mut area, test_parts::start(), &[7i64, 0]));
-    test_parts::load_ring(&mut area);
-    let both = test_parts::give_all(&mut area, &[1i64, -5]);
-    show_search(dalelead::search(&mut area, both, &[7i64]));
-    show_search(dalelead::search(&mut area, test_parts::start(), &[7i64]));
+    load_ring(rt, &mut area)?;
+    let given = test_parts::give_all(rt, &mut area, &[1])?;
+    test_parts::show_propagate(rt, &mut area, given)?;
+    load_ring(rt, &mut area)?;
+    show_search_of(rt, &mut area, Counters::start(), &[7, 7, 8])?;
+    load_ring(rt, &mut area)?;
+    show_search_of(rt, &mut area, Counters::start(), &[7, 0])?;
+    load_ring(rt, &mut area)?;
+    let both = test_parts::give_all(rt, &mut area, &[1, -5])?;
+    show_search_of(rt, &mut area, both, &[7])?;
+    show_search_of(rt, &mut area, Counters::start(), &[7])
 }
 
-fn main() {
-    sums();
-    extremes();
-    io::write_all(1, b"M11\n");
-    again();
-    io::write_all(1, b"M12\n");
-    ring_of_two();
-    refused_list();
-    levels();
-    ring();
+fn main(rt: HostRuntime) -> io::Result<()> {
+    sums(&rt)?;
+    extremes(&rt)?;
+    again(&rt)?;
+    ring_of_two(&rt)?;
+    refused_list(&rt)?;
+    levels(&rt)?;
+    ring(&rt)
 }

@@ -5,7 +5,7 @@ ghost use Rattle.types.specs.Limits.{Fitting};
 ghost use Rattle.book.specs.Table.{explain, explain_conflict};
 ghost use Rattle.calls.specs.Calls.{counted, listed_returned, Reports};
 
-use calls::Listed;
+use calls::Refusal;
 use types::{Counters, Limits, Sentence};
 
 pub fn explain_within(
@@ -14,13 +14,12 @@ pub fn explain_within(
     counters: Counters,
     literal: i64,
     list: &mut [i64],
-) -> Listed
+) -> Result<u64, Refusal>
     requires { Fitting lim }
     ensures { Reports lim area.now (counted counters) (explain literal) list.old list.new (listed_returned result) }
 {
-    let level = counters.level;
-    if !whole::is_whole(area, lim, counters.length, level.0) {
-        return Listed { code: 9, value: 0 };
+    if !whole::is_whole(area, lim, counters) {
+        return Err(Refusal::NotWhole);
     }
     explanation::explanation_whole(area, lim, counters, literal, list)
 }
@@ -31,13 +30,12 @@ pub fn explain_conflict_within(
     counters: Counters,
     sentence: Sentence,
     list: &mut [i64],
-) -> Listed
+) -> Result<u64, Refusal>
     requires { Fitting lim }
     ensures { Reports lim area.now (counted counters) (explain_conflict sentence.0) list.old list.new (listed_returned result) }
 {
-    let level = counters.level;
-    if !whole::is_whole(area, lim, counters.length, level.0) {
-        return Listed { code: 9, value: 0 };
+    if !whole::is_whole(area, lim, counters) {
+        return Err(Refusal::NotWhole);
     }
     conflict::conflict_whole(area, lim, counters, sentence, list)
 }

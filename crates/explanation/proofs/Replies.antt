@@ -14,7 +14,7 @@ use Rattle.book.specs.Table.{explain, refused, listed, Judged, scopes, no_atom, 
 use Rattle.book.specs.Book.{judged_all}
 use Rattle.area.specs.Layout.{atoms_of, sentences_of, length_of, row_at, rows_of, record_at, theory_of}
 use Rattle.calls.specs.Calls.{area_state}
-use Rattle.causes.specs.Inner.Causes.{before, PositionIs}
+use Rattle.causes.specs.Inner.Causes.{before, Stands}
 use Rattle.causes.proofs.Gives.{scope_numbered}
 use Rattle.negations.specs.Inner.Negations.{negations}
 
@@ -38,13 +38,13 @@ module _ (lim : Limits) (w : List ℕ) where
       unfolding reply
       explain_absent e = rw (an_atom, e)
 
-      module _ (p : ℕ) (at : PositionIs w n l (length_of w) p) (inside : p < length_of w) where
+      module _ (p : ℕ) (at : Stands w n l (length_of w) p) where
         reason_is : (row_of l (rows_of w)).mine.reason ≡ (row_at w n p).reason
-        reason_is = ap {A = Standpoint} (λ x. x.mine.reason) (at.row_is inside)
+        reason_is = ap {A = Standpoint} (λ x. x.mine.reason) at.row_is
 
         pub explain_given : (row_at w n p).reason ≡ 0 → (reply (area_state lim w) (a_report (explain l) room)).answer ≡ refused 13 0
         unfolding reply
-        explain_given e = rw (an_atom, at.stands inside, eq-eqb (row_of l (rows_of w)).mine.reason 0 (reason_is ∙ e))
+        explain_given e = rw (an_atom, at.found, eq-eqb (row_of l (rows_of w)).mine.reason 0 (reason_is ∙ e))
 
         module _ (s : ℕ) (derived : (row_at w n p).reason ≡ suc s) (few : s < S) where
           abbrev others : List ℤ
@@ -52,7 +52,7 @@ module _ (lim : Limits) (w : List ℕ) where
 
           explanation_is : explanation (scopes js) (rows_of w) l ≡ l ∷ others
           explanation_is =
-              ap {A = Standpoint} (λ x. l ∷ map neg_ℤ (causes (trail x.before) (numbered [] x.mine.reason (scopes js)))) (at.row_is inside)
+              ap {A = Standpoint} (λ x. l ∷ map neg_ℤ (causes (trail x.before) (numbered [] x.mine.reason (scopes js)))) at.row_is
               ∙ ap {A = ℕ} (λ k. l ∷ map neg_ℤ (causes (before w n p) (numbered [] k (scopes js)))) derived
               ∙ ap {A = List ℕ} (λ sc. l ∷ map neg_ℤ (causes (before w n p) sc)) (scope_numbered w s few)
 
@@ -65,11 +65,11 @@ module _ (lim : Limits) (w : List ℕ) where
           pub explain_short : room < 1 + length others → (reply (area_state lim w) (a_report (explain l) room)).answer ≡ refused 18 (1 + length others)
           unfolding reply
           explain_short h =
-              rw (an_atom, at.stands inside, not_given, lt-ltb room (length (explanation (scopes js) (rows_of w) l)) (omega (arith, size)))
+              rw (an_atom, at.found, not_given, lt-ltb room (length (explanation (scopes js) (rows_of w) l)) (omega (arith, size)))
               (ap {A = ℕ} (λ m. refused 18 m) size)
 
           pub explain_listed : 1 + length others ≤ room → (reply (area_state lim w) (a_report (explain l) room)).answer ≡ reported (listed (l ∷ others))
           unfolding reply
           explain_listed h =
-              rw (an_atom, at.stands inside, not_given, le-ltb room (length (explanation (scopes js) (rows_of w) l)) (omega (arith, size)))
+              rw (an_atom, at.found, not_given, le-ltb room (length (explanation (scopes js) (rows_of w) l)) (omega (arith, size)))
               (ap {A = List ℤ} (λ x. reported (listed x)) explanation_is)

@@ -7,7 +7,7 @@ ghost use Rattle.area.specs.Whole.{Whole};
 ghost use Rattle.calls.specs.Calls.{counted};
 ghost use Rattle.causes.specs.Inner.Listing.{Listing};
 
-use calls::Listed;
+use calls::Refusal;
 use types::{Counters, Limits};
 
 // The answer on a whole area, and the list.
@@ -17,36 +17,22 @@ pub fn explanation_whole(
     counters: Counters,
     literal: i64,
     list: &mut [i64],
-) -> Listed
+) -> Result<u64, Refusal>
     requires { Fitting lim × Whole lim area.now (counted counters) }
     ensures { Listing lim area.now (explain literal) list.old list.new result }
 {
-    let at = located::locate(area, literal);
-    if at.code != 0 {
-        return Listed {
-            code: at.code,
-            value: 0,
-        };
-    }
-    let position = at.position;
+    let position = located::locate(area, literal)?;
     let n = area::atoms_of(area);
-    let reason = area::row_reason(area, n, position);
-    if reason == 0 {
-        return Listed { code: 13, value: 0 };
-    }
+    let Some(sentence) = area::row_reason(area, n, position).checked_sub(1) else {
+        return Err(Refusal::Given);
+    };
     let sentences = area::sentences_of(area);
-    let base = 4 * n + 8 * (reason - 1);
+    let base = 4 * n + 8 * sentence;
     let needed = 1 + negations::count_causes(area, n, sentences, base, position);
     if list.len() < needed {
-        return Listed {
-            code: 18,
-            value: needed as u64,
-        };
+        return Err(Refusal::TooShort(needed as u64));
     }
     list[0] = literal;
     negations::write_causes(area, n, sentences, base, position, list, 1);
-    Listed {
-        code: 0,
-        value: needed as u64,
-    }
+    Ok(needed as u64)
 }

@@ -8,8 +8,8 @@ use Prim.Native.Nat.{ℕ, ◌+◌, ◌-◌, ◌*◌, ◌/◌, ◌≤◌, ◌<◌
 use native.Mathlib.Omega.{arith}
 use native.Mathlib.Nat.{mul_assoc, mul-le-mul, le_refl, mul-pos}
 use Rattle.numbers.specs.Words.{half, top}
-use Rattle.extremes.specs.declared.Kind.{Kind}
-use Rattle.extremes.specs.declared.Kind.TheVariants.{Sum, Product, Count, Max, Min}
+use Rattle.kinds.specs.declared.Kind.{Kind}
+use Rattle.kinds.specs.declared.Kind.TheVariants.{Sum, Product, Count, Max, Min}
 use Rattle.extremes.specs.Inner.Words.{empty_word, combined, reach_word, contributions}
 use Rattle.extremes.specs.Inner.Room.{Steps, Room}
 use Rattle.extremes.proofs.Values.{reach_one}

@@ -17,7 +17,7 @@ use Rattle.meaning.specs.Computed.{further_of, combine, gather, given, fixed, st
 use Rattle.meaning.proofs.Orders.{furthest_comm}
 use Rattle.meaning.proofs.Trails.{atom_half}
 use Rattle.area.specs.Layout.{standing_word, entry_of, entries_of}
-use Rattle.extremes.specs.declared.Kind.{Kind}
+use Rattle.kinds.specs.declared.Kind.{Kind}
 use Rattle.extremes.specs.Inner.Words.{meant, empty_word, combined, furthest_word, reach_word, contributions, folded}
 use Rattle.extremes.specs.Inner.Room.{Room}
 use Rattle.extremes.proofs.Values.{direction, unword_furthest, In, in_empty, unword_empty, reach_one, combined_in, combined_means}

@@ -8,7 +8,7 @@ use native.Mathlib.Omega.{arith}
 use lib.ListN.{length, get_or}
 use lib.Seq.{slice, slice-cons, slice_empty}
 use Rattle.area.specs.Layout.{value_at, weight_in, literal_in, entry_words}
-use Rattle.extremes.specs.declared.Kind.{Kind}
+use Rattle.kinds.specs.declared.Kind.{Kind}
 use Rattle.extremes.specs.declared.Extremes.{Extremes}
 use Rattle.extremes.specs.declared.EntryWords.{EntryWords}
 use Rattle.extremes.specs.Inner.Words.{empty_word, combined, reach_word, ReachesAre, contributions, folded, StepIs, FoldsAre}
@@ -35,9 +35,6 @@ from_start area start count = let e : start + 2 * 0 ≡ start = omega arith in a
 
 pub from_end : (area : List ℕ) (start count i : ℕ) → i ≡ count → words_from area start count i ≡ []
 from_end area start count i e = ap (λ (m : ℕ). slice (start + 2 * m) (start + 2 * count) area) e ∙ slice_empty (start + 2 * count) area
-
-pub entry_inside : {area : List ℕ} {start count n i : ℕ} → Entries area start count n → i < count → Inside area start n i
-entry_inside {i = i} e h = record { atoms_low = e.atoms_low; words = omega (arith, e.inside); values = e.values; literal = e.literal i h; atom_high = e.atom_high i h }
 
 -- ---- contributions
 

@@ -13,8 +13,8 @@ use Rattle.meaning.specs.Computed.{starting, gather, extreme_of, extreme}
 use Rattle.meaning.specs.Represents.{Off}
 use Rattle.area.specs.Layout.{constant_of, entries_of}
 use Rattle.area.specs.Whole.{DistinctAtoms}
-use Rattle.extremes.specs.declared.Kind.{Kind}
-use Rattle.extremes.specs.declared.Kind.TheVariants.{Sum, Product, Count, Max, Min}
+use Rattle.kinds.specs.declared.Kind.{Kind}
+use Rattle.kinds.specs.declared.Kind.TheVariants.{Sum, Product, Count, Max, Min}
 use Rattle.extremes.specs.Inner.Words.{meant, start_word, extreme_word}
 use Rattle.extremes.specs.Inner.Room.{Rooms}
 use Rattle.extremes.proofs.Values.{direction, In, unword_empty}

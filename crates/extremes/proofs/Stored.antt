@@ -17,7 +17,7 @@ use Rattle.numbers.proofs.Words.{parity, word_unword}
 use Rattle.meaning.specs.Computed.{extreme}
 use Rattle.area.specs.Layout.{tag_at, kind_at, upper_at, head_at, bound_at, constant_at, weight_in, literal_in, written_at, merged_at, entry_at, entry_words, value_at, kind_of, side_of, entries_of, rule_at}
 use Rattle.area.specs.Whole.{RuleWhole}
-use Rattle.extremes.specs.declared.Kind.{Kind}
+use Rattle.kinds.specs.declared.Kind.{Kind}
 use Rattle.extremes.specs.declared.Extremes.{Extremes}
 use Rattle.extremes.specs.Inner.Stored.{Shows, EvaluateReady, ExtremesAre}
 use Rattle.extremes.specs.Inner.Words.{meant, start_word, extreme_word, FoldsAre}

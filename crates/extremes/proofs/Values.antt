@@ -14,8 +14,8 @@ use Rattle.numbers.proofs.Words.{Representable, cases, unbias_sum, unbias_produc
 use Rattle.meaning.specs.Meaning.{empty}
 use Rattle.meaning.specs.Meaning as m
 use Rattle.meaning.specs.Computed.{both, combine, further_of}
-use Rattle.extremes.specs.declared.Kind.{Kind}
-use Rattle.extremes.specs.declared.Kind.TheVariants.{Sum, Product, Count, Max, Min}
+use Rattle.kinds.specs.declared.Kind.{Kind}
+use Rattle.kinds.specs.declared.Kind.TheVariants.{Sum, Product, Count, Max, Min}
 use Rattle.extremes.specs.Inner.Words.{meant, empty_word, combined, furthest_word, nearest_word, reach_word}
 use Rattle.extremes.specs.Inner.Room.{Steps}
 

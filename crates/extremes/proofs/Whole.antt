@@ -20,8 +20,8 @@ use Rattle.types.specs.declared.Limits.{Limits}
 use Rattle.types.specs.Limits.{Fitting}
 use Rattle.area.specs.Layout.{entry_of, entries_of}
 use Rattle.area.specs.Whole.{Near, WeightWhole, EntryWhole, weights_of, RuleWhole}
-use Rattle.extremes.specs.declared.Kind.{Kind}
-use Rattle.extremes.specs.declared.Kind.TheVariants.{Sum, Product, Count, Max, Min}
+use Rattle.kinds.specs.declared.Kind.{Kind}
+use Rattle.kinds.specs.declared.Kind.TheVariants.{Sum, Product, Count, Max, Min}
 use Rattle.extremes.specs.Inner.Words.{meant, start_word}
 use Rattle.extremes.proofs.Values.{In, in_empty}
 use Rattle.extremes.proofs.Contributions.{Legal}

@@ -1,6 +1,6 @@
 -- What is found at a sentence behind silent ones: its conflict, its head, or the first open entry that turns, since the scan from an entry
 -- on comes to what the whole scan says where no entry before it turns.
-use mathlib.Core.Path.{◌≡◌, refl, sym, ◌∙◌, ap, subst}
+use mathlib.Core.Path.{◌≡◌, refl, sym, ◌∙◌, ap}
 use mathlib.Core.Bool.{Bool, true}
 use mathlib.Core.List.{List}
 use Prim.Native.Nat.{ℕ, ◌+◌, ◌*◌, ◌-◌, ◌/◌, ◌<◌}
@@ -11,7 +11,6 @@ use Rattle.extremes.specs.declared.EntryWords.{EntryWords}
 use Rattle.extremes.specs.Inner.Words.{empty_word}
 use Rattle.extremes.specs.Inner.Room.{EntryIs}
 use Rattle.evaluate.specs.declared.Body.{Body}
-use Rattle.evaluate.specs.declared.Known.{Known}
 use Rattle.evaluate.specs.declared.Known.TheVariants.{Conflict, Forced, Undecided}
 use Rattle.evaluate.specs.Inner.Sentence.{said_of}
 use Rattle.evaluate.specs.Inner.Words.{wanted_word}
@@ -23,9 +22,6 @@ use Rattle.find.specs.declared.Found.{Found}
 use Rattle.find.specs.Inner.Find.{FoundIs}
 use Rattle.find.specs.Inner.Asked.{KnownAt}
 use Rattle.find.proofs.Speech.{said_by, SilentTo, found_conflict, found_forced}
-
-pub known_here : {w : List ℕ} {n S s : ℕ} {r x : Known} → KnownAt w n S s r → r ≡ x → KnownAt w n S s x
-known_here {w} {n} {S} {s} h e = subst (KnownAt w n S s) e h
 
 module _ {w : List ℕ} {n S s : ℕ} (h : s < S) (before : SilentTo w n S s) where
   pub conflict_found : KnownAt w n S s Conflict → FoundIs w n S (Found.Conflict s)

@@ -1,18 +1,12 @@
 -- What an area that can be searched gives of its sentences: each can be evaluated, its stored bounds are the words of its extremes over
 -- any trail that the values show, and one that is not marked has nothing to say.
 use mathlib.Core.Path.{◌≡◌, sym, ◌∙◌, subst}
-use mathlib.Core.Bool.{Bool, true, false, not}
 use mathlib.Core.List.{List}
 use Prim.Native.Nat.{ℕ, ◌<◌}
-use native.Mathlib.Omega.{arith}
-use borrow.Author.Tests.{not-true}
-use Rattle.meaning.specs.Meaning as m
-use Rattle.meaning.specs.Computed.{first_said}
 use Rattle.book.specs.Rows.{trail}
-use Rattle.area.specs.Layout.{atoms_of, sentences_of, rows_from, rows_of, record_at, pending_at, least_at, greatest_at, rule_at}
+use Rattle.area.specs.Layout.{atoms_of, sentences_of, rows_from, rows_of, record_at, least_at, greatest_at}
 use Rattle.area.specs.Whole.{BoundsMatch}
 use Rattle.evaluate.specs.declared.Known.{Known}
-use Rattle.evaluate.specs.declared.Known.TheVariants.{Silent}
 use Rattle.extremes.specs.Inner.Stored.{Shows, EvaluateReady, ExtremesAre}
 use Rattle.evaluate.specs.Inner.Known.{KnownIs}
 use Rattle.extremes.proofs.Stored.{one_trail}
@@ -44,15 +38,6 @@ module _ {w : List ℕ} {n S s : ℕ} (a : FindReady w n S) (inside : s < S) whe
   extremes_of p q =
       let match = carried a (λ n S. s < S → BoundsMatch w n S (record_at n s) (trail (rows_of w))) (a.searchable.whole.bounds s) inside in
       one_trail (trail (rows_of w)) ready_of (shown a) (p ∙ match.least) (q ∙ match.greatest)
-
-  pub unmarked : {b : Bool} → b ≡ pending_at w (record_at n s) → not b ≡ true → KnownAt w n S s Silent
-  unmarked {b} p e = record {
-    said_is =
-        carried a (λ n S. s < S → pending_at w (record_at n s) ≡ false → first_said (rule_at w n S (record_at n s)) (trail (rows_of w)) ≡ m.silent)
-        (a.searchable.whole.quiet s) inside (sym p ∙ not-true b e);
-    word_low = λ l e. let z : ◌≡◌ {A = ℕ} 0 1 = cc in let b : ⊥ = omega arith in absurd b;
-    placed = tt;
-  }
 
   pub marked : {r : Known} → KnownIs w n S (record_at n s) r → KnownAt w n S s r
   marked h = record { said_is = h.said.said_is (trail (rows_of w)) (shown a); word_low = h.said.word_low; placed = h.placed }

@@ -11,12 +11,10 @@ use Rattle.meaning.specs.Computed.{first_said}
 use Rattle.book.specs.Rows.{trail}
 use Rattle.book.specs.Table.{Speech, nothing, spoken, first_to_speak}
 use Rattle.book.specs.Book.{judged_all}
-use Rattle.area.specs.Layout.{atoms_of, sentences_of, rows_of, rules_from, theory_of, record_at, rule_at}
+use Rattle.area.specs.Layout.{rows_of, rules_from, theory_of, record_at, rule_at}
 use Rattle.find.specs.declared.Found.{Found}
 use Rattle.find.specs.declared.Found.TheVariants.{Nothing, Conflict, Forced}
 use Rattle.find.specs.Inner.Find.{spoken_of, FoundIs}
-use Rattle.find.specs.Inner.Asked.{FindReady}
-use Rattle.find.proofs.Sentences.{carried}
 
 module _ (w : List ℕ) (n S : ℕ) where
   abbrev pub said_by : ℕ → m.Said
@@ -41,12 +39,6 @@ module _ (w : List ℕ) (n S : ℕ) where
   from_end : (s : ℕ) → s ≡ S → from s ≡ nothing
   unfolding first_to_speak rules_from
   from_end s e = let z : S - s ≡ 0 = omega arith in ap (λ k. first_to_speak (suc s) (judged_all (rules_from w n S s k)) (trail (rows_of w))) z
-
-  pub silent_start : FindReady w n S → SilentTo 0
-  silent_start a =
-      carried a (λ n S. first_to_speak 1 (judged_all (theory_of w)) (trail (rows_of w)) ≡ first_to_speak 1 (judged_all (rules_from w n S 0 (S - 0))) (trail (rows_of w)))
-      (let e : sentences_of w ≡ sentences_of w - 0 = omega arith in
-      ap (λ k. first_to_speak 1 (judged_all (rules_from w (atoms_of w) (sentences_of w) 0 k)) (trail (rows_of w))) e)
 
   pub silent_next : (s : ℕ) → s < S → SilentTo s → said_by s ≡ m.silent → SilentTo (s + 1)
   silent_next s h before e = before ∙ from_next s h ∙ ap (λ x. spoken x (suc s) (from (s + 1))) e

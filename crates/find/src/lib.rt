@@ -6,10 +6,11 @@ ghost use Rattle.find.specs.Inner.Find.{FoundIs};
 ghost use Rattle.find.specs.Inner.Asked.{FindReady, KnownAt};
 
 use evaluate::Known;
+use extremes::Extremes;
 
 // Nothing; the sentence in conflict, counted from 0; or the sentence that forces, the literal's word, and where the sentence has its atom:
 // 0 for the head, j for merged entry j from 1.
-#[derive(Clone, Copy)]
+#[derive(Clone, Copy, Debug, PartialEq, Eq)]
 pub enum Found {
     Nothing,
     Conflict(usize),
@@ -26,9 +27,11 @@ fn known_of(area: &[u64], n: usize, sentences: usize, s: usize) -> Known
     if !area::pending_at(area, base) {
         return Known::Silent;
     }
-    let least = area::least_at(area, base);
-    let greatest = area::greatest_at(area, base);
-    evaluate::look(area, n, sentences, base, least, greatest)
+    let stored = Extremes {
+        least: area::least_at(area, base),
+        greatest: area::greatest_at(area, base),
+    };
+    evaluate::look(area, n, sentences, base, stored)
 }
 
 // The scan over the sentences and the entries, left at the first that speaks.
@@ -37,8 +40,7 @@ pub fn find(area: &[u64], n: usize, sentences: usize) -> Found
     ensures { FoundIs area.now n sentences result }
 {
     let mut found = Found::Nothing;
-    let mut s: usize = 0;
-    'sentences: while s < sentences {
+    'sentences: for s in 0..sentences {
         match known_of(area, n, sentences, s) {
             Known::Silent => {}
             Known::Conflict => {
@@ -50,22 +52,16 @@ pub fn find(area: &[u64], n: usize, sentences: usize) -> Found
                 break 'sentences;
             }
             Known::Undecided(body) => {
-                let start = body.start;
-                let merged = body.merged;
-                let mut i: usize = 0;
-                while i < merged {
-                    let e = extremes::entry_in(area, start, n, i);
+                for i in 0..body.merged {
+                    let e = extremes::entry_in(area, body.start, n, i);
                     if evaluate::entry_turns(body, e.weight, e.value) {
-                        let place = i + 1;
                         let forced = evaluate::entry_wanted(body, e.weight, e.literal);
-                        found = Found::Forced(s, forced, place);
+                        found = Found::Forced(s, forced, i + 1);
                         break 'sentences;
                     }
-                    i += 1;
                 }
             }
         }
-        s += 1;
     }
     found
 }

@@ -12,14 +12,14 @@ use lib.Dec.{T}
 use Rattle.numbers.specs.Words.{half, unbias, literal_word, literal_of}
 use Rattle.numbers.proofs.Integers.{sum_size, size_parts}
 use Rattle.numbers.proofs.Words.{unbias_parts, unbias_sum, literal_of_word, literal_word_of}
-use Rattle.meaning.specs.Meaning.{atom, Entry, same, members, mixes, Each}
+use Rattle.meaning.specs.Meaning.{atom, Entry, Kind, same, members, mixes, Each}
 use Rattle.meaning.specs.Merge.{turned, constant, put, collect}
 use Rattle.meaning.proofs.Gather.{each_map}
 use Rattle.meaning.proofs.Members.{same→eq, eq→same}
 use Rattle.meaning.proofs.Orders.{is_true, is_false}
 use Rattle.meaning.proofs.Trails.{atom_half}
 use Rattle.kinds.proofs.Weights.{fits_size}
-use Rattle.area.specs.Layout.{kind_of, entry_of}
+use Rattle.area.specs.Layout.{entry_of}
 use Rattle.columns.proofs.MergedSizes.{put_size}
 use Rattle.entry_words.specs.declared.Turned.{Turned}
 use Rattle.entry_words.specs.Inner.Entries.{positive, freed, TurnedIs}
@@ -52,31 +52,31 @@ seen_next seen es x l s low high = record { size = length-set seen l true ∙ s.
 
 -- ---- one entry
 
-module _ {kind : ℕ} {es : List Entry} {part table : List ℕ} {seen : List Bool} {n c x l : ℕ} (g : Gathered kind es part table seen n c) (t : Takeable kind es x l (length part)) where
+module _ {kind : Kind} {es : List Entry} {part table : List ℕ} {seen : List Bool} {n c x l : ℕ} (g : Gathered kind es part table seen n c) (t : Takeable kind es x l (length part)) where
   noted : get_or seen l false ≡ mentioned (literal_of l) es
   noted = ap (λ i. get_or seen i false) (sym (literal_word_of l t.low)) ∙ g.seen_is.each (literal_of l) (let h = t.high in omega (arith, atom_half l))
 
-  members_by : (b : Bool) → taken (kind_of kind) (get_or seen l false) ≡ b
-      → members (kind_of kind) (es ++ (entry_of x l ∷ [])) ≡ cond b (members (kind_of kind) es ++ (entry_of x l ∷ [])) (members (kind_of kind) es)
-  members_by b e = members_next (kind_of kind) es (entry_of x l) t.fits
-      ∙ ap (λ b. cond b (members (kind_of kind) es ++ (entry_of x l ∷ [])) (members (kind_of kind) es)) (ap (taken (kind_of kind)) (sym noted) ∙ e)
+  members_by : (b : Bool) → taken kind (get_or seen l false) ≡ b
+      → members kind (es ++ (entry_of x l ∷ [])) ≡ cond b (members kind es ++ (entry_of x l ∷ [])) (members kind es)
+  members_by b e = members_next kind es (entry_of x l) t.fits
+      ∙ ap (λ b. cond b (members kind es ++ (entry_of x l ∷ [])) (members kind es)) (ap (taken kind) (sym noted) ∙ e)
 
   one_longer : length (es ++ (entry_of x l ∷ [])) ≡ length es + 1
   one_longer = length-append es (entry_of x l ∷ [])
 
   weight_small : nat_abs (unbias x) ≤ 1000000000
-  weight_small = fits_size (kind_of kind) (unbias x) t.fits
+  weight_small = fits_size kind (unbias x) t.fits
 
   pub weight_top : x ≤ 9223372036854775808
   weight_top = omega (arith, weight_small, unbias_parts x, size_parts (unbias x))
 
-  pub left_out : taken (kind_of kind) (get_or seen l false) ≡ false → Gathered kind (es ++ (entry_of x l ∷ [])) part table (set seen l true) n c
+  pub left_out : taken kind (get_or seen l false) ≡ false → Gathered kind (es ++ (entry_of x l ∷ [])) part table (set seen l true) n c
   left_out e = record {
     collected = record {
-      entries = g.collected.entries ∙ ap (λ ms. collect (kind_of kind) [] (turned (kind_of kind) ms)) (sym (members_by false e));
+      entries = g.collected.entries ∙ ap (λ ms. collect kind [] (turned kind ms)) (sym (members_by false e));
       literals = g.collected.literals;
       few = let f = g.collected.few in omega (arith, one_longer);
-      constant_is = g.collected.constant_is ∙ ap (constant (kind_of kind)) (sym (members_by false e));
+      constant_is = g.collected.constant_is ∙ ap (constant kind) (sym (members_by false e));
     };
     small = λ m. each_map (λ e. nat_abs e.weight ≤ 1000000000 * length es) (λ e. nat_abs e.weight ≤ 1000000000 * length
         (es ++ (entry_of x l ∷ []))) (first_entries part n) (λ y h. omega (arith, one_longer)) (g.small m);
@@ -86,11 +86,11 @@ module _ {kind : ℕ} {es : List Entry} {part table : List ℕ} {seen : List Boo
   }
 
   module _ {r : Turned} (is : TurnedIs kind x l r) where
-    turned_weight : unbias r.weight ≡ (positive (kind_of kind) (entry_of x l)).weight
+    turned_weight : unbias r.weight ≡ (positive kind (entry_of x l)).weight
     turned_weight = ap (λ e. e.weight) is.entry
 
     freed_small : nat_abs (unbias r.freed) ≤ 1000000000
-    freed_small = omega (arith, weight_small, ap nat_abs is.freed_is, freed_size (kind_of kind) (entry_of x l))
+    freed_small = omega (arith, weight_small, ap nat_abs is.freed_is, freed_size kind (entry_of x l))
 
     pub constant_low : half ≤ c + r.freed
     constant_low = let h = g.near in let f = t.few in omega (arith, freed_small, unbias_parts c, unbias_parts r.freed, size_parts (unbias c), size_parts (unbias r.freed))
@@ -105,26 +105,26 @@ module _ {kind : ℕ} {es : List Entry} {part table : List ℕ} {seen : List Boo
       low = is.low;
       high = is.high;
       places = g.places;
-      joinable = rw turned_weight (all_joinable (kind_of kind) es (entry_of x l) (first_entries part n) g.collected.entries
+      joinable = rw turned_weight (all_joinable kind es (entry_of x l) (first_entries part n) g.collected.entries
           (let f = t.few in omega arith) g.small t.fit t.fits t.product);
     }
 
-    module _ {part' table' : List ℕ} {n' : ℕ} (p : PutInto part part' table' n kind r.weight r.literal n') (e : taken (kind_of kind) (get_or seen l false) ≡ true) where
-      put_is : first_entries part' n' ≡ put (kind_of kind) (first_entries part n) (positive (kind_of kind) (entry_of x l))
-      put_is = p.entries ∙ ap (put (kind_of kind) (first_entries part n)) is.entry
+    module _ {part' table' : List ℕ} {n' : ℕ} (p : PutInto part part' table' n kind r.weight r.literal n') (e : taken kind (get_or seen l false) ≡ true) where
+      put_is : first_entries part' n' ≡ put kind (first_entries part n) (positive kind (entry_of x l))
+      put_is = p.entries ∙ ap (put kind (first_entries part n)) is.entry
 
-      entries_are : first_entries part' n' ≡ collect (kind_of kind) [] (turned (kind_of kind) (members (kind_of kind) (es ++ (entry_of x l ∷ []))))
-      entries_are = put_is ∙ ap (λ xs. put (kind_of kind) xs (positive (kind_of kind) (entry_of x l))) g.collected.entries
-          ∙ sym (collect_next (kind_of kind) [] (turned (kind_of kind) (members (kind_of kind) es)) (positive (kind_of kind) (entry_of x l)))
-          ∙ ap (collect (kind_of kind) []) (sym (turned_next (kind_of kind) (members (kind_of kind) es) (entry_of x l)))
-          ∙ ap (λ ms. collect (kind_of kind) [] (turned (kind_of kind) ms)) (sym (members_by true e))
+      entries_are : first_entries part' n' ≡ collect kind [] (turned kind (members kind (es ++ (entry_of x l ∷ []))))
+      entries_are = put_is ∙ ap (λ xs. put kind xs (positive kind (entry_of x l))) g.collected.entries
+          ∙ sym (collect_next kind [] (turned kind (members kind es)) (positive kind (entry_of x l)))
+          ∙ ap (collect kind []) (sym (turned_next kind (members kind es) (entry_of x l)))
+          ∙ ap (λ ms. collect kind [] (turned kind ms)) (sym (members_by true e))
 
-      all_small : T (mixes (kind_of kind)) → Each (λ e. nat_abs e.weight ≤ 1000000000 * length (es ++ (entry_of x l ∷ []))) (first_entries part' n')
+      all_small : T (mixes kind) → Each (λ e. nat_abs e.weight ≤ 1000000000 * length (es ++ (entry_of x l ∷ []))) (first_entries part' n')
       all_small m = rw put_is
           (each_map (λ e. nat_abs e.weight ≤ 1000000000 * length es + 1000000000) (λ e. nat_abs e.weight ≤ 1000000000 * length (es ++ (entry_of x l ∷ [])))
-          (put (kind_of kind) (first_entries part n) (positive (kind_of kind) (entry_of x l))) (λ y h. omega (arith, one_longer))
-          (put_size (kind_of kind) (λ v w. joined_sum (kind_of kind) v w m) (1000000000 * length es) 1000000000 (first_entries part n) (positive (kind_of kind) (entry_of x l)) (g.small m)
-          (omega (arith, weight_small, turn_size (kind_of kind) (entry_of x l)))))
+          (put kind (first_entries part n) (positive kind (entry_of x l))) (λ y h. omega (arith, one_longer))
+          (put_size kind (λ v w. joined_sum kind v w m) (1000000000 * length es) 1000000000 (first_entries part n) (positive kind (entry_of x l)) (g.small m)
+          (omega (arith, weight_small, turn_size kind (entry_of x l)))))
 
       new_constant : unbias (c + r.freed - half) ≡ unbias c +ℤ unbias r.freed
       new_constant = unbias_sum c r.freed constant_low
@@ -136,8 +136,8 @@ module _ {kind : ℕ} {es : List Entry} {part table : List ℕ} {seen : List Boo
           literals = p.literals g.collected.literals;
           few = let f = g.collected.few in let q = p.most in omega (arith, one_longer);
           constant_is =
-              new_constant ∙ ap (λ v. v +ℤ unbias r.freed) g.collected.constant_is ∙ ap (λ v. constant (kind_of kind) (members (kind_of kind) es) +ℤ v) is.freed_is
-              ∙ sym (constant_next (kind_of kind) (members (kind_of kind) es) (entry_of x l)) ∙ ap (constant (kind_of kind)) (sym (members_by true e));
+              new_constant ∙ ap (λ v. v +ℤ unbias r.freed) g.collected.constant_is ∙ ap (λ v. constant kind (members kind es) +ℤ v) is.freed_is
+              ∙ sym (constant_next kind (members kind es) (entry_of x l)) ∙ ap (constant kind) (sym (members_by true e));
         };
         small = all_small;
         places = p.places;

@@ -2,7 +2,7 @@
 use mathlib.Core.Path.{◌≡◌, refl, ap, ◌∙◌}
 use mathlib.Core.Bool.{Bool, true, false, cond}
 use mathlib.Core.List.{List, [], ◌∷◌, ◌++◌}
-use Prim.Native.Nat.{ℕ, zero, suc, ◌≤◌, ◌<◌}
+use Prim.Native.Nat.{ℕ, zero, suc, ◌<◌}
 use native.Mathlib.Omega.{arith}
 use lib.IntN.{ℤ}
 use lib.ListN.{length, get_or, set}
@@ -78,10 +78,3 @@ slot_old k (x ∷ xs) e i h = go (same x.literal e.literal) refl (slot xs e.lite
     go false f zero j ih r q = absurd (omega arith)
     go false f (suc s) zero ih r q = absurd (omega arith)
     go false f (suc s) (suc j) ih r q = ap (λ b. cond b 1 (after (slot (put k xs e) e.literal))) f ∙ ap after (ih j (omega arith))
-
-pub slot_most : (xs : List Entry) (l : ℤ) → slot xs l ≤ length xs
-unfolding slot
-slot_most [] l = omega arith
-slot_most (x ∷ xs) l =
-    elim (same x.literal l) as (λ b. cond b 1 (after (slot xs l)) ≤ suc (length xs))
-    [ true ↦ omega arith | false ↦ elim (slot xs l) as (λ s. s ≤ length xs → after s ≤ suc (length xs)) [ zero ↦ λ h. omega arith | suc s ↦ λ h. omega arith ] (slot_most xs l) ]

@@ -11,21 +11,16 @@ use lib.ListN.{length, get_or, take, drop, replicate, length-replicate, get_or-r
 use lib.Seq.{take-suc, length-take-le}
 use lib.Signed.{le_z, mag}
 use lib.Dec.{T}
-use mir.Syntax.{w64}
-use mir.Val.{SFits}
-use mir.ValLaws.{to_z-of_z}
 use Rattle.numbers.specs.Words.{half, bias, unbias, literal_word, literal_of}
 use Rattle.numbers.proofs.Integers.{le_z_trans}
 use Rattle.numbers.proofs.Words.{unbias_of, unbias_zero, literal_of_word}
-use Rattle.signed.proofs.Casts.{back}
 use Rattle.meaning.specs.Meaning.{atom, Entry, entry_atom, Kind, sum, product, count, maximum, minimum, members, multiplied, Each}
 use Rattle.meaning.specs.Merge.{turned_all, freed_all, turned, constant, collect}
 use Rattle.meaning.proofs.Gather.{each_map}
 use Rattle.kinds.specs.Kinds.{weight_fits}
 use Rattle.meaning.proofs.Trails.{atom_size}
 use Rattle.kinds.proofs.Weights.{fits_weighable, fits_size}
-use Rattle.area.proofs.KindNumbers.{product_number}
-use Rattle.area.specs.Layout.{kind_of, entry_of}
+use Rattle.area.specs.Layout.{entry_of}
 use Rattle.area.specs.Whole.{weights_of}
 use Rattle.columns.specs.Columns.{paired}
 use Rattle.columns.specs.Refusals.{some_entry}
@@ -74,13 +69,6 @@ first_product es i h = subst (λ (m : ℤ). T (le_z (multiplied (weights_of (tak
 
 -- ---- entry i
 
--- the words of a number that comes back from its bits
-pub weight_is : {x : ℕ} (w : ℤ) → SFits w64 w → x ≡ bias (back w) → x ≡ bias w
-weight_is w f e = e ∙ ap bias (to_z-of_z w64 w f)
-
-pub literal_is : {x : ℕ} (l : ℤ) → SFits w64 l → x ≡ literal_word (back l) → x ≡ literal_word l
-literal_is l f e = e ∙ ap literal_word (to_z-of_z w64 l f)
-
 mag_size : (w : ℤ) → mag w ≤ nat_abs w
 mag_size (pos n) = omega arith
 mag_size (negsuc n) = omega arith
@@ -89,25 +77,25 @@ literal_word_range : (l : ℤ) → 1 ≤ atom l → atom l ≤ 4096 → (2 ≤ l
 literal_word_range (pos a) h g = (omega arith, omega arith)
 literal_word_range (negsuc a) h g = (omega arith, omega arith)
 
-module _ {part : List ℕ} {kind : ℕ} {ws ls : List ℤ} (m : Mergeable part kind ws ls) (i : ℕ) (h : i < length ws) where
+module _ {part : List ℕ} {kind : Kind} {ws ls : List ℤ} (m : Mergeable part kind ws ls) (i : ℕ) (h : i < length ws) where
   at_place : (P : Entry → Type 0) → Each P (paired ws ls) → P (record { weight = get_or ws i (pos 0); literal = get_or ls i (pos 0) })
   at_place P e = subst P (paired_at ws ls i (entry_of 0 0) m.same h) (each_at P (paired ws ls) i (entry_of 0 0) (omega (arith, paired_length ws ls m.same)) e)
 
-  fits_at : T (weight_fits (kind_of kind) (get_or ws i (pos 0)))
-  fits_at = at_place (λ e. T (weight_fits (kind_of kind) e.weight)) m.weights
+  fits_at : T (weight_fits kind (get_or ws i (pos 0)))
+  fits_at = at_place (λ e. T (weight_fits kind e.weight)) m.weights
 
-  pub weight_small : SFits w64 (get_or ws i (pos 0)) → nat_abs (back (get_or ws i (pos 0))) ≤ 1000000000000000000
-  weight_small f = rw (to_z-of_z w64 (get_or ws i (pos 0)) f) (omega (arith, fits_size (kind_of kind) (get_or ws i (pos 0)) fits_at))
+  pub weight_small : nat_abs (get_or ws i (pos 0)) ≤ 1000000000000000000
+  weight_small = omega (arith, fits_size kind (get_or ws i (pos 0)) fits_at)
 
   literal_range : (1 ≤ atom (get_or ls i (pos 0))) × (atom (get_or ls i (pos 0)) ≤ 4096)
   literal_range = at_place (λ e. (1 ≤ entry_atom e) × (entry_atom e ≤ 4096)) m.literals
 
-  pub literal_small : SFits w64 (get_or ls i (pos 0)) → nat_abs (back (get_or ls i (pos 0))) ≤ 4096
-  literal_small f = rw (to_z-of_z w64 (get_or ls i (pos 0)) f) (let r = literal_range.1 in omega (arith, atom_size (get_or ls i (pos 0))))
+  pub literal_small : nat_abs (get_or ls i (pos 0)) ≤ 4096
+  literal_small = let r = literal_range.1 in omega (arith, atom_size (get_or ls i (pos 0)))
 
   module _ {x l : ℕ} (x_is : x ≡ bias (get_or ws i (pos 0))) (l_is : l ≡ literal_word (get_or ls i (pos 0))) where
     weight_back : unbias x ≡ get_or ws i (pos 0)
-    weight_back = ap unbias x_is ∙ unbias_of (get_or ws i (pos 0)) (omega (arith, mag_size (get_or ws i (pos 0)), fits_size (kind_of kind) (get_or ws i (pos 0)) fits_at))
+    weight_back = ap unbias x_is ∙ unbias_of (get_or ws i (pos 0)) (omega (arith, mag_size (get_or ws i (pos 0)), fits_size kind (get_or ws i (pos 0)) fits_at))
 
     literal_back : literal_of l ≡ get_or ls i (pos 0)
     literal_back = ap literal_of l_is ∙ literal_of_word (get_or ls i (pos 0))
@@ -121,12 +109,12 @@ module _ {part : List ℕ} {kind : ℕ} {ws ls : List ℤ} (m : Mergeable part k
     first_length : length (take i (paired ws ls)) ≡ i
     first_length = length-take-le i (paired ws ls) (omega (arith, paired_length ws ls m.same))
 
-    product_most : kind_of kind ≡ product → T (le_z (multiplied (weights_of (take i (paired ws ls) ++ (entry_of x l ∷ [])))) (pos 1000000000000000000))
+    product_most : kind ≡ product → T (le_z (multiplied (weights_of (take i (paired ws ls) ++ (entry_of x l ∷ [])))) (pos 1000000000000000000))
     product_most e = rw (sym one_more)
         (le_z_trans (multiplied (weights_of (take (i + 1) (paired ws ls)))) (multiplied (weights_of (paired ws ls))) (pos 1000000000000000000)
-        (first_product (paired ws ls) (i + 1) (each_map (λ y. T (weight_fits (kind_of kind) y.weight)) (λ y. T (le_z (pos 1) y.weight)) (paired ws ls)
+        (first_product (paired ws ls) (i + 1) (each_map (λ y. T (weight_fits kind y.weight)) (λ y. T (le_z (pos 1) y.weight)) (paired ws ls)
         (λ y f. fits_weighable product y.weight (subst (λ (k : Kind). T (weight_fits k y.weight)) e f)) m.weights))
-        (m.product (product_number kind e)))
+        (m.product e))
 
     pub takeable : (words : ℕ) → words ≡ length part → Takeable kind (take i (paired ws ls)) x l words
     takeable words e = record {
@@ -135,7 +123,7 @@ module _ {part : List ℕ} {kind : ℕ} {ws ls : List ℤ} (m : Mergeable part k
       low = rw l_is (literal_word_range (get_or ls i (pos 0)) literal_range.0 literal_range.1).0;
       high = rw l_is (literal_word_range (get_or ls i (pos 0)) literal_range.0 literal_range.1).1;
       fits = rw weight_back fits_at;
-      fit = each_take (λ e. T (weight_fits (kind_of kind) e.weight)) i (paired ws ls) m.weights;
+      fit = each_take (λ e. T (weight_fits kind e.weight)) i (paired ws ls) m.weights;
       product = product_most;
     }
 
@@ -153,14 +141,14 @@ word_high : (l : ℤ) → atom l ≤ 4096 → literal_word l < 8194
 word_high (pos a) h = omega arith
 word_high (negsuc a) h = omega arith
 
-pub gathered_none : (kind : ℕ) (es : List Entry) (part table : List ℕ) (seen : List Bool) → table ≡ replicate 8194 0 → seen ≡ replicate 8194 false → Gathered kind (take 0 es) part table seen 0 half
+pub gathered_none : (kind : Kind) (es : List Entry) (part table : List ℕ) (seen : List Bool) → table ≡ replicate 8194 0 → seen ≡ replicate 8194 false → Gathered kind (take 0 es) part table seen 0 half
 unfolding slot some_entry
 gathered_none kind es part table seen t s = rw (take_none es, t, s) (record {
   collected = record {
-    entries = entries_none part ∙ none_collected (kind_of kind);
+    entries = entries_none part ∙ none_collected kind;
     literals = λ i h. absurd (omega arith);
     few = omega arith;
-    constant_is = unbias_zero ∙ none_freed (kind_of kind);
+    constant_is = unbias_zero ∙ none_freed kind;
   };
   places = rw (entries_none part) (record { size = length-replicate {A = ℕ} 8194 0; each = λ l h. get_or-replicate {A = ℕ} 8194 (literal_word l) 0 0 (word_high l h) });
   seen_is = record { size = length-replicate 8194 false; each = λ l h. get_or-replicate 8194 (literal_word l) false false (word_high l h) };

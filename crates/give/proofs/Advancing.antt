@@ -136,6 +136,6 @@ module _ (lim : Limits) (w : List ℕ) (n S len level literal mark : ℕ) (a : A
 
 pub advanced_rows : (lim : Limits) (w w' : List ℕ) (len level literal mark k : ℕ) (l : ℤ) → Advanced lim w w' len level literal mark → literal_of literal ≡ l
     → mark / 65536 % 65536 ≡ k → rows_of w' ≡ a_row l (level_of w) k ∷ rows_of w
-advanced_rows lim w w' len level literal mark k l a e f =
+advanced_rows lim w _ len level literal mark k l a e f =
     let same : level ≡ level_of w = sym a.whole.level_is ∙ a.level in
     a.rows ∙ ap {A = ℤ} (λ x. a_row x level (mark / 65536 % 65536) ∷ rows_of w) e ∙ ap₂ {A = ℕ} {B = ℕ} (λ v x. a_row l v x ∷ rows_of w) same f

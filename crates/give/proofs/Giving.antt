@@ -1,19 +1,20 @@
 -- The refusal of a give on a whole area, by its tests: no atom has the literal's number (10), or the atom's value word is not 0 (11). And what
 -- it leaves otherwise: the literal is put on at the current level with no reason.
 use mathlib.Core.Path.{◌≡◌, refl, sym, ◌∙◌, ap, subst}
-use mathlib.Core.Bool.{Bool, true, false, not, ◌||◌}
+use mathlib.Core.Bool.{Bool, true, false, not, ◌&&◌, ◌||◌}
 use mathlib.Core.List.{List}
 use Prim.Native.Nat.{ℕ, ◌+◌, ◌/◌, ◌≤◌}
 use native.Mathlib.Omega.{arith}
 use lib.IntN.{ℤ, pos, negsuc}
-use lib.Dec.{T, eqb}
-use borrow.Author.Tests.{eqb-true, not-false}
+use lib.Dec.{T, eqb, leb}
+use borrow.Author.Tests.{eqb-true, leb-true, not-false}
+use Rattle.std.proofs.lemmas.Bool.{and_parts}
 use Rattle.types.specs.declared.Limits.{Limits}
 use Rattle.numbers.specs.Words.{literal_word}
 use Rattle.numbers.proofs.Words.{literal_of_word}
 use Rattle.meaning.specs.Meaning.{atom}
-use Rattle.literals.specs.Inner.Literals.{IsAtom, AtomOf}
-use Rattle.literals.proofs.Atoms.{known_within, known_atom}
+use Rattle.literals.specs.Inner.Literals.{unknown}
+use Rattle.literals.proofs.Atoms.{known_within}
 use Rattle.book.specs.Table.{give, done, returned_by, State, no_atom, Outcome, effect, reply, a_step}
 use Rattle.book.specs.Book.{Counters}
 use Rattle.area.specs.Layout.{atoms_of, sentences_of, value_at}
@@ -38,9 +39,16 @@ literal_word_low : (l : ℤ) → 1 ≤ atom l → 2 ≤ literal_word l
 literal_word_low (pos a) h = omega arith
 literal_word_low (negsuc a) h = omega arith
 
--- r is the literal's atom, and it is open
-pub record Open (w : List ℕ) (l : ℤ) (r : ℕ) : Type 0 where
-  pub is : IsAtom (atoms_of w) l r
+-- a literal that passes the test has an atom
+pub within : (n : ℕ) (l : ℤ) → unknown n l ≡ false → (1 ≤ atom l) × (atom l ≤ n)
+within n l e =
+    let p = and_parts (leb 1 (atom l)) (leb (atom l) n) (not-false (leb 1 (atom l) && leb (atom l) n) e) in
+    (leb-true 1 (atom l) p.0, leb-true (atom l) n p.1)
+
+-- the literal has an atom, and it is open
+pub record Open (w : List ℕ) (l : ℤ) : Type 0 where
+  pub low : 1 ≤ atom l
+  pub high : atom l ≤ atoms_of w
   pub free : value_at w (atoms_of w) (atom l) ≡ 0
 
 module _ (lim : Limits) (w : List ℕ) (c : Counters) (u : Usable lim w c) (l : ℤ) where
@@ -49,17 +57,14 @@ module _ (lim : Limits) (w : List ℕ) (c : Counters) (u : Usable lim w c) (l : 
 
   -- ---- the code of the refusal
 
-  pub none_code : no_atom q l ≡ true → 10 ≡ refusal_code lim w (give l)
-  none_code e = rw e refl
-
   -- where it is 0, the atom is open
-  pub open_atom : {r : ℕ} → AtomOf (atoms_of w) l r → refusal_code lim w (give l) ≡ 0 → Open w l r
-  open_atom {r} a e =
-      let passed = none_applies lim w (give l) e in
-      let k = known_atom r a passed.0 in
+  pub open_atom : 0 ≡ refusal_code lim w (give l) → Open w l
+  open_atom e =
+      let passed = none_applies lim w (give l) (sym e) in
+      let k = within (atoms_of w) l passed.0 in
       let value = value_at w (atoms_of w) (atom l) in
-      let off = sym (on_trail_value lim w c u.whole (atom l) k.low k.high) ∙ passed.1.0 in
-      record { is = k; free = eqb-true value 0 (not-false (eqb value 0) off) }
+      let off = sym (on_trail_value lim w c u.whole (atom l) k.0 k.1) ∙ passed.1.0 in
+      record { low = k.0; high = k.1; free = eqb-true value 0 (not-false (eqb value 0) off) }
 
   module _ (low : 1 ≤ atom l) (high : atom l ≤ atoms_of w) where
     pub taken_code : ¬ (value_at w (atoms_of w) (atom l) ≡ 0) → 11 ≡ refusal_code lim w (give l)

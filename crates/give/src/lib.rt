@@ -1,20 +1,21 @@
 // A literal put on: given by a caller, or with a reason.
 #![tactic(auto)]
 
-ghost use Rattle.std.specs.Prelude.{◌≡◌, ℕ, ◌<◌, ◌≤◌, length};
+ghost use Rattle.std.specs.Prelude.{◌≡◌, IfOk, ℕ, ◌<◌, ◌≤◌, length};
 ghost use Rattle.types.specs.Limits.{widest, Fitting};
 ghost use Rattle.numbers.specs.Words.{literal_word};
 ghost use Rattle.meaning.specs.Meaning.{atom};
 ghost use Rattle.book.specs.Table.{give};
 ghost use Rattle.book.specs.Book as book;
 ghost use Rattle.area.specs.Layout.{word};
-ghost use Rattle.calls.specs.Calls.{counted, done_returned, Acts};
+ghost use Rattle.calls.specs.Refusals.{code_in};
+ghost use Rattle.calls.specs.Calls.{counted, counters_after, done_returned, Acts};
 ghost use Rattle.give.specs.Inner.Trail.{Advanceable, Advanced};
 ghost use Rattle.whole.specs.Inner.Usable.{Usable};
 ghost use Rattle.give.specs.Inner.Ready.{AdvanceReady, Ready};
 ghost use Rattle.give.specs.Inner.Refused.{refusal_code};
 
-use calls::Done;
+use calls::Refusal;
 use types::{Counters, Limits};
 
 // A table with a mark at one atom.
@@ -45,59 +46,56 @@ fn word_of(literal: i64, size: usize) -> u64
     requires { (size ≡ atom literal) × (size ≤ widest.atoms) }
     ensures { result ≡ literal_word literal }
 {
-    if signed::negative(literal) {
-        return 2 * size as u64 + 1;
+    let word = 2 * size as u64;
+    if literal.is_negative() {
+        word + 1
+    } else {
+        word
     }
-    2 * size as u64
 }
 
-// The code with which a give on a whole area is refused, 0 for none.
-pub fn give_refusal(area: &[u64], literal: i64) -> u64
+// The atom of a literal that can be given on a whole area, or the refusal.
+pub fn open_atom(area: &[u64], literal: i64) -> Result<usize, Refusal>
     requires { (lim : Limits) × (c : book.Counters) × Usable lim area.now c }
-    ensures { (lim : Limits) (c : book.Counters) → Usable lim area.now c → result ≡ refusal_code lim area.now (give literal) }
+    ensures refusal { (lim : Limits) (c : book.Counters) → Usable lim area.now c → code_in result ≡ refusal_code lim area.now (give literal) }
+    ensures is_atom { IfOk result (λ a. a ≡ atom literal) }
 {
     let n = area::atoms_of(area);
-    let atom = literals::atom_of(literal, n);
-    if atom == 0 {
-        return 10;
-    }
+    let atom = literals::atom_of(literal, n).ok_or(Refusal::NoAtom)?;
     if area::value_at(area, n, atom) != 0 {
-        return 11;
+        return Err(Refusal::OnTrail);
     }
-    0
+    Ok(atom)
 }
 
 // The caller's literal on a whole area, put on at the current level with no reason.
-pub fn give_whole(area: &mut [u64], counters: Counters, literal: i64) -> Done
+pub fn give_whole(area: &mut [u64], counters: Counters, literal: i64) -> Result<Counters, Refusal>
     requires { Ready area.old (counted counters) }
-    ensures { (lim : Limits) → Usable lim area.old (counted counters) → Acts lim area.old area.new (counted counters) (counted result.counters) (give literal) (done_returned result) }
+    ensures { (lim : Limits) → Usable lim area.old (counted counters) → Acts lim area.old area.new (counted counters) (counted (counters_after counters result)) (give literal) (done_returned result) }
 {
-    let code = give_refusal(area, literal);
-    if code != 0 {
-        return Done { code, counters };
-    }
+    let atom = open_atom(area, literal)?;
     let n = area::atoms_of(area);
-    let atom = literals::atom_of(literal, n);
     let sentences = area::sentences_of(area);
-    let word = word_of(literal, atom);
     let length = counters.length;
-    let level = counters.level;
-    advance(area, n, sentences, length as usize, word, level.0);
-    Done {
-        code: 0,
-        counters: Counters {
-            length: length + 1,
-            level,
-        },
-    }
+    let word = word_of(literal, atom);
+    advance(area, n, sentences, length as usize, word, counters.level.0);
+    Ok(Counters {
+        length: length + 1,
+        ..counters
+    })
 }
 
-pub fn give_within(area: &mut [u64], lim: Limits, counters: Counters, literal: i64) -> Done
+pub fn give_within(
+    area: &mut [u64],
+    lim: Limits,
+    counters: Counters,
+    literal: i64,
+) -> Result<Counters, Refusal>
     requires { Fitting lim }
-    ensures { Acts lim area.old area.new (counted counters) (counted result.counters) (give literal) (done_returned result) }
+    ensures { Acts lim area.old area.new (counted counters) (counted (counters_after counters result)) (give literal) (done_returned result) }
 {
-    if !whole::is_whole(area, lim, counters.length, counters.level.0) {
-        return Done { code: 9, counters };
+    if !whole::is_whole(area, lim, counters) {
+        return Err(Refusal::NotWhole);
     }
     give_whole(area, counters, literal)
 }

@@ -2,28 +2,30 @@
 -- bounds, and a report on it is a report of the book, whose meaning is known. Whoever judges by full assignments, the book's answers are
 -- the same.
 use mathlib.Core.Path.{◌≡◌, refl, sym, ap, ap₂, ◌∙◌, subst}
-use mathlib.Core.List.{List}
+use mathlib.Core.Bool.{Bool, true, false, cond}
+use mathlib.Core.List.{List, [], ◌∷◌}
 use Prim.Native.Nat.{ℕ, suc, ◌-◌, ◌<◌}
 use native.Mathlib.Omega.{arith}
 use lib.ListN.{length, take, drop}
 use lib.IntN.{ℤ}
+use Rattle.std.specs.Prelude.{Result, Ok, Err}
 use Rattle.types.specs.declared.Limits.{Limits}
 use Rattle.types.specs.Limits.{Fitting}
 use Rattle.types.specs.declared.Counters as t
 use Rattle.numbers.specs.Words.{unword}
 use Rattle.meaning.specs.Meaning.{Sentence, Each}
 use Rattle.book.specs.Rows.{Row, trail}
-use Rattle.book.specs.Table.{Report, explain, explain_conflict, origin, a_report, Answer, reported, list_of, returned_by, list_after, State, result_of, reply}
+use Rattle.book.specs.Table.{Report, explain, explain_conflict, origin, a_report, Answer, refused, reported, list_of, returned_by, list_after, State, Refusal, refuse_if, refusals, result_of, Outcome, unchanged, effect, decided, reply}
 use Rattle.book.specs.Book.{Counters, WellFormed, Judgement, Judging, computed, rules_of, Book, fresh, need, book_state, book_after}
 use Rattle.book.specs.Means.{Bounded, Explains, ExplainsConflict, OriginList}
-use Rattle.book.proofs.Tests.{reply_is}
 use Rattle.book.proofs.Judged.{computed_right}
 use Rattle.book.proofs.Reports.{explain_means, explain_conflict_means, origin_means}
 use Rattle.book.proofs.Keeps.{played_sentences, reach_is}
 use Rattle.book.proofs.Same.{answers_same, played_same, reach_same}
 use Rattle.area.specs.Layout.{atoms_of, rows_of, theory_of, record_at, least_at, greatest_at}
-use Rattle.calls.specs.declared.Listed.{Listed}
-use Rattle.calls.specs.Calls.{counted, listed_returned, area_state, Reports}
+use Rattle.calls.specs.declared.Refusal as calls
+use Rattle.calls.specs.declared.Refusal.TheVariants.{NotWhole, NoAtom, NotOnTrail, TooShort}
+use Rattle.calls.specs.Calls.{counted, refused_returned, listed_returned, area_state, Reports}
 use Rattle.calls.proofs.Acting.{answered_whole}
 use Rattle.calls.proofs.Effects.{reported_here, taken}
 use Rattle.give.proofs.Moves.{rows_count}
@@ -39,9 +41,27 @@ use Rattle.history.proofs.Steps.{played_atoms, Followed, followed}
 
 -- ---- reports on an area that stands for the book
 
--- a list call's numbers, as they are handed back
-abbrev printed : Answer → Listed
-printed a = record { code = (returned_by a).code; value = (returned_by a).value }
+-- every answer of the table to an origin report is one that the code can hand back
+abbrev Handed : Answer → Type 0
+Handed a = (r : Result ℕ calls.Refusal) × (listed_returned r ≡ returned_by a)
+
+abbrev Refused : Refusal → Type 0
+Refused x = (e : calls.Refusal) × (refused_returned e ≡ returned_by (refused x.code x.value))
+
+decided_handed : (q : State) (xs : List Refusal) (o : Outcome) → Each Refused xs → Handed o.answer → Handed (decided q xs o).answer
+decided_handed q [] o h p = p
+decided_handed q (x ∷ xs) o h p = go x.applies (decided_handed q xs o h.1 p)
+  where
+    go : (b : Bool) → Handed (decided q xs o).answer → Handed (cond b (unchanged q (refused x.code x.value)) (decided q xs o)).answer
+    go true later = (Err h.0.0, h.0.1)
+    go false later = later
+
+origin_handed : (q : State) (l : ℤ) (room : ℕ) → Handed (reply q (a_report (origin l) room)).answer
+unfolding reply
+origin_handed q l room =
+    let x = a_report (origin l) room in
+    let n = length (list_of (result_of q (origin l))) in
+    decided_handed q (refuse_if 9 q.broken ∷ refusals q x) (effect q x) ((NotWhole, refl), ((NoAtom, refl), ((NotOnTrail, refl), ((TooShort n, refl), tt)))) (Ok n, refl)
 
 module _ (lim : Limits) (fit : Fitting lim) (b : Book) (w : List ℕ) (c : t.Counters) (s : Stands lim b w (counted c)) where
   abbrev q : State
@@ -65,43 +85,38 @@ module _ (lim : Limits) (fit : Fitting lim) (b : Book) (w : List ℕ) (c : t.Cou
       (bounds_mean lim w (counted c) s.whole b.atoms live s.well s.theory (suc k) (unword (least_at w at)) (unword (greatest_at w at)) x)
 
   -- a list that is handed back is of the book's result, and stands in front: what holds of the book's result holds of it
-  module _ (x : Report) (old new : List ℤ) (r : Listed) (a : Reports lim w (counted c) x old new (listed_returned r)) (z : r.code ≡ 0) where
+  module _ (x : Report) (old new : List ℤ) (count : ℕ) (a : Reports lim w (counted c) x old new (listed_returned (Ok count))) where
     told : (P : List Row → List ℤ → Type 0) → ((reply book_q (a_report x (length old))).answer ≡ reported (result_of book_q x) → P b.rows (list_of (result_of book_q x)))
-        → P (rows_of w) (take r.value new)
+        → P (rows_of w) (take count new)
     told P means =
         let e = book_state_is in
-        subst (λ rs. P rs (take r.value new)) (sym s.rows)
-        (subst (P b.rows) (sym (taken lim w (counted c) s.whole x old new (listed_returned r) a z ∙ ap {A = State} (λ y. list_of (result_of y x)) e))
-        (means (ap {A = State} (λ y. (reply y (a_report x (length old))).answer) (sym e) ∙ reported_here lim w (counted c) s.whole x old new (listed_returned r) a z
+        subst (λ rs. P rs (take count new)) (sym s.rows)
+        (subst (P b.rows) (sym (taken lim w (counted c) s.whole x old new (listed_returned (Ok count)) a refl ∙ ap {A = State} (λ y. list_of (result_of y x)) e))
+        (means (ap {A = State} (λ y. (reply y (a_report x (length old))).answer) (sym e) ∙ reported_here lim w (counted c) s.whole x old new (listed_returned (Ok count)) a refl
         ∙ ap {A = State} (λ y. reported (result_of y x)) e)))
 
-  explained_right : (l : ℤ) (old new : List ℤ) (r : Listed) → ListsExplanation lim w c l old new r → r.code ≡ 0 → Explains live (rows_of w) l (take r.value new)
-  explained_right l old new r a z =
-      told (explain l) old new r a z (λ rs. Explains live rs l)
+  explained_right : (l : ℤ) (old new : List ℤ) (count : ℕ) → ListsExplanation lim w c l old new (Ok count) → Explains live (rows_of w) l (take count new)
+  explained_right l old new count a =
+      told (explain l) old new count a (λ rs. Explains live rs l)
       (explain_means lim computed computed_right b s.well s.sound (length w) (counted c) l (length old) (list_of (result_of book_q (explain l))))
 
-  conflict_right : (k : ℕ) (old new : List ℤ) (r : Listed) → ListsConflict lim w c k old new r → r.code ≡ 0 → ExplainsConflict live (rows_of w) k (take r.value new)
-  conflict_right k old new r a z =
-      told (explain_conflict k) old new r a z (λ rs. ExplainsConflict live rs k)
+  conflict_right : (k : ℕ) (old new : List ℤ) (count : ℕ) → ListsConflict lim w c k old new (Ok count) → ExplainsConflict live (rows_of w) k (take count new)
+  conflict_right k old new count a =
+      told (explain_conflict k) old new count a (λ rs. ExplainsConflict live rs k)
       (explain_conflict_means lim computed computed_right b s.well s.sound (length w) (counted c) k (length old) (list_of (result_of book_q (explain_conflict k))))
 
-  origin_right : (l : ℤ) (old new : List ℤ) (r : Listed) → ListsOrigin lim w c l old new r → r.code ≡ 0 → OriginList live (rows_of w) l (take r.value new)
-  origin_right l old new r a z =
-      told (origin l) old new r a z (λ rs. OriginList live rs l)
+  origin_right : (l : ℤ) (old new : List ℤ) (count : ℕ) → ListsOrigin lim w c l old new (Ok count) → OriginList live (rows_of w) l (take count new)
+  origin_right l old new count a =
+      told (origin l) old new count a (λ rs. OriginList live rs l)
       (origin_means lim computed computed_right b s.well s.sound (length w) (counted c) l (length old) (list_of (result_of book_q (origin l))))
 
-  origin_has_answer : (l : ℤ) (old : List ℤ) → (new : List ℤ) × (r : Listed) × ListsOrigin lim w c l old new r
+  origin_has_answer : (l : ℤ) (old : List ℤ) → (new : List ℤ) × (r : Result ℕ calls.Refusal) × ListsOrigin lim w c l old new r
   origin_has_answer l old =
       let x = a_report (origin l) (length old) in
-      let a = (reply q x).answer in
-      let e = reply_is (λ o. listed_returned (printed o.answer) ≡ returned_by o.answer) q x (λ i k. refl) (λ p. refl) in (
-        list_after a old,
-        printed a,
-        record {
-          answer = answered_whole lim w (counted c) x (listed_returned (printed a)) s.whole e;
-          broken = λ b. absurd (b s.whole);
-          written = λ _. refl;
-        },
+      let r = origin_handed q l (length old) in (
+        list_after (reply q x).answer old,
+        r.0,
+        record { answer = answered_whole lim w (counted c) x (listed_returned r.0) s.whole r.1; broken = λ b. absurd (b s.whole); written = λ _. refl },
       )
 
 -- ---- the claim
@@ -128,11 +143,11 @@ history lim fit w₀ w n columns r loads code es w' c calls = record {
       (subst (λ a. (s : ℕ) → s < length last.sentences
       → Bounded last.sentences (trail (rows_of w')) (suc s) (unword (least_at w' (record_at a s))) (unword (greatest_at w' (record_at a s))))
       (played_atoms lim computed first (asked_in es)) (bounds_right lim fit last w' c f.stands));
-  explained = λ l old new r a z. live (λ xs. Explains xs (rows_of w') l (take r.value new)) (explained_right lim fit last w' c f.stands l old new r a z);
-  conflict_explained = λ k old new r a z.
-      live (λ xs. ExplainsConflict xs (rows_of w') k (take r.value new)) (conflict_right lim fit last w' c f.stands k old new r a z);
+  explained = λ l old new count a. live (λ xs. Explains xs (rows_of w') l (take count new)) (explained_right lim fit last w' c f.stands l old new count a);
+  conflict_explained = λ k old new count a.
+      live (λ xs. ExplainsConflict xs (rows_of w') k (take count new)) (conflict_right lim fit last w' c f.stands k old new count a);
   origin_answered = origin_has_answer lim fit last w' c f.stands;
-  originated = λ l old new r a z. live (λ xs. OriginList xs (rows_of w') l (take r.value new)) (origin_right lim fit last w' c f.stands l old new r a z);
+  originated = λ l old new count a. live (λ xs. OriginList xs (rows_of w') l (take count new)) (origin_right lim fit last w' c f.stands l old new count a);
 }
   where
     ss : List Sentence
@@ -172,13 +187,13 @@ module _ {lim : Limits} {n : ℕ} {ss : List Sentence} {loaded : List ℕ} {es :
   pub bounds_of_load : (s : ℕ) → s < length ss → Bounded ss (trail (rows_of w)) (suc s) (unword (least_at w (record_at n s))) (unword (greatest_at w (record_at n s)))
   bounds_of_load = h.bounds_are
 
-  pub explained_of_load : (l : ℤ) (old new : List ℤ) (r : Listed) → ListsExplanation lim w c l old new r → r.code ≡ 0 → Explains ss (rows_of w) l (take r.value new)
+  pub explained_of_load : (l : ℤ) (old new : List ℤ) (count : ℕ) → ListsExplanation lim w c l old new (Ok count) → Explains ss (rows_of w) l (take count new)
   explained_of_load = h.explained
 
-  pub conflict_of_load : (k : ℕ) (old new : List ℤ) (r : Listed) → ListsConflict lim w c k old new r → r.code ≡ 0 → ExplainsConflict ss (rows_of w) k (take r.value new)
+  pub conflict_of_load : (k : ℕ) (old new : List ℤ) (count : ℕ) → ListsConflict lim w c k old new (Ok count) → ExplainsConflict ss (rows_of w) k (take count new)
   conflict_of_load = h.conflict_explained
 
-  pub origins_of_load : (l : ℤ) (old new : List ℤ) (r : Listed) → ListsOrigin lim w c l old new r → r.code ≡ 0 → OriginList ss (rows_of w) l (take r.value new)
+  pub origins_of_load : (l : ℤ) (old new : List ℤ) (count : ℕ) → ListsOrigin lim w c l old new (Ok count) → OriginList ss (rows_of w) l (take count new)
   origins_of_load = h.originated
 
   -- and of those that the book then holds, whoever judges
@@ -190,14 +205,14 @@ module _ {lim : Limits} {n : ℕ} {ss : List Sentence} {loaded : List ℕ} {es :
   bounds_of_book j m =
       of_book j (λ xs. (s : ℕ) → s < length xs → Bounded xs (trail (rows_of w)) (suc s) (unword (least_at w (record_at n s))) (unword (greatest_at w (record_at n s)))) h.bounds_are
 
-  pub explained_of_book : (j : Judgement) → Judging j → (l : ℤ) (old new : List ℤ) (r : Listed) → ListsExplanation lim w c l old new r → r.code ≡ 0
-      → Explains (book_after lim j (fresh n ss) (asked_in es)).sentences (rows_of w) l (take r.value new)
-  explained_of_book j m l old new r a z = of_book j (λ xs. Explains xs (rows_of w) l (take r.value new)) (h.explained l old new r a z)
+  pub explained_of_book : (j : Judgement) → Judging j → (l : ℤ) (old new : List ℤ) (count : ℕ) → ListsExplanation lim w c l old new (Ok count)
+      → Explains (book_after lim j (fresh n ss) (asked_in es)).sentences (rows_of w) l (take count new)
+  explained_of_book j m l old new count a = of_book j (λ xs. Explains xs (rows_of w) l (take count new)) (h.explained l old new count a)
 
-  pub conflict_of_book : (j : Judgement) → Judging j → (k : ℕ) (old new : List ℤ) (r : Listed) → ListsConflict lim w c k old new r → r.code ≡ 0
-      → ExplainsConflict (book_after lim j (fresh n ss) (asked_in es)).sentences (rows_of w) k (take r.value new)
-  conflict_of_book j m k old new r a z = of_book j (λ xs. ExplainsConflict xs (rows_of w) k (take r.value new)) (h.conflict_explained k old new r a z)
+  pub conflict_of_book : (j : Judgement) → Judging j → (k : ℕ) (old new : List ℤ) (count : ℕ) → ListsConflict lim w c k old new (Ok count)
+      → ExplainsConflict (book_after lim j (fresh n ss) (asked_in es)).sentences (rows_of w) k (take count new)
+  conflict_of_book j m k old new count a = of_book j (λ xs. ExplainsConflict xs (rows_of w) k (take count new)) (h.conflict_explained k old new count a)
 
-  pub origins_of_book : (j : Judgement) → Judging j → (l : ℤ) (old new : List ℤ) (r : Listed) → ListsOrigin lim w c l old new r → r.code ≡ 0
-      → OriginList (book_after lim j (fresh n ss) (asked_in es)).sentences (rows_of w) l (take r.value new)
-  origins_of_book j m l old new r a z = of_book j (λ xs. OriginList xs (rows_of w) l (take r.value new)) (h.originated l old new r a z)
+  pub origins_of_book : (j : Judgement) → Judging j → (l : ℤ) (old new : List ℤ) (count : ℕ) → ListsOrigin lim w c l old new (Ok count)
+      → OriginList (book_after lim j (fresh n ss) (asked_in es)).sentences (rows_of w) l (take count new)
+  origins_of_book j m l old new count a = of_book j (λ xs. OriginList xs (rows_of w) l (take count new)) (h.originated l old new count a)

@@ -1,7 +1,8 @@
 -- The claim about every list of calls after an accepted load. Its calls keep the public contracts; its answers are the book's.
-use Rattle.std.specs.Prelude.{◌≡◌, cond, List, [], ◌∷◌, ◌++◌, ℕ, suc, ◌<◌, length, take, drop, ℤ, eqb}
+use Rattle.std.specs.Prelude.{◌≡◌, cond, List, [], ◌∷◌, ◌++◌, ℕ, suc, ◌<◌, length, take, drop, ℤ, eqb, Result, Ok}
 use Rattle.types.specs.declared.Limits.{Limits}
 use Rattle.types.specs.declared.Counters as t
+pub use Rattle.types.specs.Counters.{start}
 use Rattle.numbers.specs.Words.{unword}
 use Rattle.meaning.specs.Meaning.{Sentence}
 use Rattle.book.specs.Rows.{trail}
@@ -10,7 +11,7 @@ use Rattle.book.specs.Book.{Counters, Judgement, Judging, computed, rules_of, fr
 use Rattle.book.specs.Means.{Bounded, Explains, ExplainsConflict, OriginList}
 use Rattle.area.specs.Layout.{atoms_of, level_of, rows_of, theory_of, record_at, least_at, greatest_at}
 use Rattle.area.specs.Whole.{Whole}
-use Rattle.calls.specs.declared.Listed.{Listed}
+use Rattle.calls.specs.declared.Refusal.{Refusal}
 use Rattle.calls.specs.Calls.{counted, Acts, Reports}
 use Rattle.columns.specs.Columns.{Columns, all_written, sentences_in}
 use Rattle.columns.specs.declared.Answer as c
@@ -85,16 +86,12 @@ pub record Claim (lim : Limits) (n : ℕ) (ss : List Sentence) (loaded : List �
   -- the stored bounds of every sentence
   pub bounds_are : (s : ℕ) → s < length ss → Bounded ss (trail (rows_of w)) (suc s) (unword (least_at w (record_at n s))) (unword (greatest_at w (record_at n s)))
   -- every explanation that is not refused
-  pub explained : (l : ℤ) (old new : List ℤ) (r : Listed) → ListsExplanation lim w c l old new r → r.code ≡ 0 → Explains ss (rows_of w) l (take r.value new)
-  pub conflict_explained : (k : ℕ) (old new : List ℤ) (r : Listed) → ListsConflict lim w c k old new r → r.code ≡ 0
-      → ExplainsConflict ss (rows_of w) k (take r.value new)
+  pub explained : (l : ℤ) (old new : List ℤ) (count : ℕ) → ListsExplanation lim w c l old new (Ok count) → Explains ss (rows_of w) l (take count new)
+  pub conflict_explained : (k : ℕ) (old new : List ℤ) (count : ℕ) → ListsConflict lim w c k old new (Ok count)
+      → ExplainsConflict ss (rows_of w) k (take count new)
   -- every origin report has an answer, and one that is not refused names origins
-  pub origin_answered : (l : ℤ) (old : List ℤ) → (new : List ℤ) × (r : Listed) × ListsOrigin lim w c l old new r
-  pub originated : (l : ℤ) (old new : List ℤ) (r : Listed) → ListsOrigin lim w c l old new r → r.code ≡ 0 → OriginList ss (rows_of w) l (take r.value new)
-
--- the counters after a load
-abbrev pub start : t.Counters
-start = record { length = 0; level = record { 0 = 0 } }
+  pub origin_answered : (l : ℤ) (old : List ℤ) → (new : List ℤ) × (r : Result ℕ Refusal) × ListsOrigin lim w c l old new r
+  pub originated : (l : ℤ) (old new : List ℤ) (count : ℕ) → ListsOrigin lim w c l old new (Ok count) → OriginList ss (rows_of w) l (take count new)
 
 -- every list of calls after an accepted load, which hands on the words w; the limits are any
 abbrev pub History : Limits → Type 0

@@ -2,19 +2,33 @@
 // changed in the caller's hands. Each function is thin: a public call of `dalelead` does the work, and its contract is the contract here.
 #![tactic(auto)]
 
+ghost use Rattle.std.specs.Prelude.{◌≡◌, IfOk};
 ghost use Rattle.types.specs.Limits.{document};
-ghost use Rattle.columns.specs.Columns.{seven_columns};
+ghost use Rattle.types.specs.Counters.{start};
+ghost use Rattle.columns.specs.Answers.{answer_of};
 ghost use Rattle.load.specs.Load.{Loads};
-ghost use Rattle.dalelead.specs.Public.{Gives, Opens, TakesBack, SearchesFor};
-ghost use Rattle.lent_records.specs.Records.{weights_in, literals_in};
+ghost use Rattle.lent_records.specs.Columns.{with_records};
 ghost use Rattle.lent_records.specs.Inner.Copy.{CopyOf};
-ghost use Rattle.lent_told.specs.Told.{searched, PropagatesTo};
-ghost use Rattle.lent.specs.Lent.{done};
+ghost use Rattle.lent.specs.Lent.{GivesIn, OpensIn, TakesBackIn, PropagatesIn, SearchesIn};
 
-use columns::Answer;
-use lent_records::{Copied, Weighted};
-use lent_told::{Outcome, SearchOutcome};
-use types::{Atom, Counters, Level};
+use calls::Refusal;
+use lent_records::{Copied, Sentences, Weighted};
+use propagate::Propagated;
+use types::{Atom, Counters, Level, Sentence};
+
+// Where propagate stopped: the sentence in conflict, and the number of literals derived.
+#[derive(Clone, Copy, Debug, PartialEq, Eq)]
+pub struct Stop {
+    pub sentence: Option<Sentence>,
+    pub count: u64,
+}
+
+// Where the search loop did, over all turns, and the number of literals of the list that it went through.
+#[derive(Clone, Copy, Debug, PartialEq, Eq)]
+pub struct SearchStop {
+    pub stop: Stop,
+    pub gone: u64,
+}
 
 // ---- load, from a list of records
 
@@ -22,83 +36,87 @@ use types::{Atom, Counters, Level};
 fn copy_records(records: &[Weighted]) -> Copied
     ensures { CopyOf document.entries records.now result }
 {
-    let column = lent_records::blank();
-    let mut weights = column;
-    let mut literals = column;
-    let mut i: usize = 0;
-    while i < records.len() {
-        lent_records::copy_one(&mut weights, &mut literals, i, records[i]);
-        i += 1;
+    let mut copied = lent_records::blank();
+    for (i, record) in records.iter().enumerate() {
+        lent_records::copy_one(&mut copied, i, *record);
     }
-    Copied {
-        weights: weights,
-        literals: literals,
-        count: i,
-    }
+    copied.count = records.len();
+    copied
 }
 
 // Load, its entries as a list of records.
 pub fn load_records(
     area: &mut [u64],
     atoms: Atom,
-    heads: &[u64],
-    kinds: &[u64],
-    sides: &[u64],
-    bounds: &[i64],
-    counts: &[u64],
+    sentences: Sentences<'_>,
     entries: &[Weighted],
-) -> Answer
-    ensures { Loads document area.old area.new atoms.0
-        (seven_columns heads.now kinds.now sides.now bounds.now counts.now
-        (weights_in entries.now) (literals_in entries.now)) result }
+) -> Result<Counters, columns::Refusal>
+    ensures loads { Loads document area.old area.new atoms.0 (with_records sentences.entry entries.now) (answer_of result) }
+    ensures counters { IfOk result (λ c. c ≡ start) }
 {
     let copied = copy_records(entries);
-    lent_records::load_copied(area, atoms, heads, kinds, sides, bounds, counts, copied)
+    lent_records::load_copied(area, atoms, sentences, &copied)
 }
 
-// ---- the counters in the caller's hands
+// ---- the counters in the caller's hands: a refused call leaves them as they were
 
-// Give, with the counters in the caller's hands: 0 or the refusal.
-pub fn give_in(area: &mut [u64], counters: &mut Counters, literal: i64) -> u64
-    ensures { Gives document area.old area.new counters.old literal (done result counters.new) }
+// Give, with the counters in the caller's hands.
+pub fn give_in(area: &mut [u64], counters: &mut Counters, literal: i64) -> Result<(), Refusal>
+    ensures { GivesIn document area.old area.new counters.old counters.new literal result }
 {
-    let answer = lent_told::give_told(area, *counters, literal);
-    *counters = answer.counters;
-    answer.code
+    *counters = dalelead::give(area, *counters, literal)?;
+    Ok(())
 }
 
 // Open, likewise.
-pub fn open_in(area: &mut [u64], counters: &mut Counters) -> u64
-    ensures { Opens document area.old area.new counters.old (done result counters.new) }
+pub fn open_in(area: &mut [u64], counters: &mut Counters) -> Result<(), Refusal>
+    ensures { OpensIn document area.old area.new counters.old counters.new result }
 {
-    let answer = lent_told::open_told(area, *counters);
-    *counters = answer.counters;
-    answer.code
+    *counters = dalelead::open_level(area, *counters)?;
+    Ok(())
 }
 
 // Take back to a level, likewise.
-pub fn take_back_in(area: &mut [u64], counters: &mut Counters, level: Level) -> u64
-    ensures { TakesBack document area.old area.new counters.old level.0 (done result counters.new) }
+pub fn take_back_in(area: &mut [u64], counters: &mut Counters, level: Level) -> Result<(), Refusal>
+    ensures { TakesBackIn document area.old area.new counters.old counters.new level.0 result }
 {
-    let answer = lent_told::take_back_told(area, *counters, level);
-    *counters = answer.counters;
-    answer.code
+    *counters = dalelead::take_back(area, *counters, level)?;
+    Ok(())
 }
 
 // Propagate, with the counters in the caller's hands.
-pub fn propagate_in(area: &mut [u64], counters: &mut Counters) -> Outcome
-    ensures { PropagatesTo document area.old area.new counters.old counters.new result }
+pub fn propagate_in(area: &mut [u64], counters: &mut Counters) -> Result<Stop, Refusal>
+    ensures { PropagatesIn document area.old area.new counters.old counters.new result }
 {
-    let answer = lent_told::propagate_told(area, *counters);
-    *counters = answer.counters;
-    answer.outcome
+    let answer = dalelead::propagate(area, *counters)?;
+    *counters = answer.counters();
+    Ok(match answer {
+        Propagated::Still(count, _) => Stop {
+            sentence: None,
+            count,
+        },
+        Propagated::Conflict(sentence, count, _) => Stop {
+            sentence: Some(sentence),
+            count,
+        },
+    })
 }
 
 // The search loop, with the counters in the caller's hands.
-pub fn search_in(area: &mut [u64], counters: &mut Counters, literals: &[i64]) -> SearchOutcome
-    ensures { SearchesFor document area.old area.new counters.old literals.now (searched result counters.new) }
+pub fn search_in(
+    area: &mut [u64],
+    counters: &mut Counters,
+    literals: &[i64],
+) -> Result<SearchStop, Refusal>
+    ensures { SearchesIn document area.old area.new counters.old counters.new literals.now result }
 {
-    let answer = lent_told::search_told(area, *counters, literals);
+    let answer = dalelead::search(area, *counters, literals)?;
     *counters = answer.counters;
-    answer.outcome
+    Ok(SearchStop {
+        stop: Stop {
+            sentence: answer.sentence,
+            count: answer.count,
+        },
+        gone: answer.gone,
+    })
 }

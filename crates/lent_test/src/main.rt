@@ -4,160 +4,121 @@
 #![tactic(auto)]
 
 ghost use Rattle.types.specs.Limits.{document};
-ghost use Rattle.columns.specs.Columns.{seven_columns};
+ghost use Rattle.columns.specs.Answers.{answer_of};
 ghost use Rattle.load.specs.Load.{Loads};
-ghost use Rattle.dalelead.specs.Public.{Gives, SearchesFor};
-ghost use Rattle.lent_records.specs.Records.{weights_in, literals_in};
-ghost use Rattle.lent_told.specs.Told.{searched, PropagatesTo};
+ghost use Rattle.lent_records.specs.Columns.{with_records};
+ghost use Rattle.lent.specs.Lent.{GivesIn, PropagatesIn, SearchesIn};
 
-use columns::Answer;
-use lent_records::Weighted;
-use lent_told::{Outcome, SearchOutcome};
+use calls::Refusal;
+use lent::{SearchStop, Stop};
+use lent_records::{Sentences, Weighted};
+use std::io;
 use types::{Atom, Counters, Level};
 
 // Two records by value, lent as a list.
 fn load_two(
     area: &mut [u64],
     atoms: Atom,
-    heads: &[u64],
-    kinds: &[u64],
-    sides: &[u64],
-    bounds: &[i64],
-    counts: &[u64],
+    sentences: Sentences<'_>,
     entries: [Weighted; 2],
-) -> Answer
-    ensures { Loads document area.old area.new atoms.0
-        (seven_columns heads.now kinds.now sides.now bounds.now counts.now (weights_in entries)
-        (literals_in entries)) result }
+) -> Result<Counters, columns::Refusal>
+    ensures { Loads document area.old area.new atoms.0 (with_records sentences.entry entries) (answer_of result) }
 {
-    lent::load_records(area, atoms, heads, kinds, sides, bounds, counts, &entries)
+    lent::load_records(area, atoms, sentences, &entries)
 }
 
-// Counters by value, lent to give.
-fn give_held(area: &mut [u64], counters: Counters, literal: i64) -> calls::Done
-    ensures { Gives document area.old area.new counters literal result }
+// Counters in the caller's hands, lent to give, to propagate and to the search loop.
+fn give_held(area: &mut [u64], held: &mut Counters, literal: i64) -> Result<(), Refusal>
+    ensures { GivesIn document area.old area.new held.old held.new literal result }
 {
-    let mut held = counters;
-    let code = lent::give_in(area, &mut held, literal);
-    calls::Done {
-        code: code,
-        counters: held,
-    }
+    lent::give_in(area, held, literal)
 }
 
-// What propagate leaves: its outcome, and the counters after it.
-#[derive(Clone, Copy)]
-struct Held {
-    outcome: Outcome,
-    counters: Counters,
-}
-
-// And to propagate.
-fn propagate_held(area: &mut [u64], counters: Counters) -> Held
-    ensures { PropagatesTo document area.old area.new counters result.counters result.outcome }
+fn propagate_held(area: &mut [u64], held: &mut Counters) -> Result<Stop, Refusal>
+    ensures { PropagatesIn document area.old area.new held.old held.new result }
 {
-    let mut held = counters;
-    let outcome = lent::propagate_in(area, &mut held);
-    Held {
-        outcome: outcome,
-        counters: held,
-    }
+    lent::propagate_in(area, held)
 }
 
-// What the search loop leaves.
-#[derive(Clone, Copy)]
-struct SearchHeld {
-    outcome: SearchOutcome,
-    counters: Counters,
-}
-
-// And to the search loop.
-fn search_held(area: &mut [u64], counters: Counters, literals: &[i64]) -> SearchHeld
-    ensures { SearchesFor document area.old area.new counters literals.now (searched result.outcome result.counters) }
+fn search_held(
+    area: &mut [u64],
+    held: &mut Counters,
+    literals: &[i64],
+) -> Result<SearchStop, Refusal>
+    ensures { SearchesIn document area.old area.new held.old held.new literals.now result }
 {
-    let mut held = counters;
-    let outcome = lent::search_in(area, &mut held, literals);
-    SearchHeld {
-        outcome: outcome,
-        counters: held,
-    }
+    lent::search_in(area, held, literals)
 }
 
 // ---- what is written
 
-fn number(x: u64) {
-    io::write_all(1, b" ");
-    io::print_decimal(1, x);
+fn show_give(
+    rt: &impl Print,
+    area: &mut [u64],
+    held: &mut Counters,
+    literal: i64,
+) -> io::Result<()> {
+    let code = match give_held(area, held, literal) {
+        Ok(()) => 0,
+        Err(refusal) => refusal.code(),
+    };
+    println!(rt; "give {code} {} {}", held.length, held.level.0)
 }
 
-fn show_counters(counters: Counters) {
-    let level = counters.level;
-    number(counters.length);
-    number(level.0);
-    io::write_all(1, b"\n");
+fn show_propagate(rt: &impl Print, area: &mut [u64], held: &mut Counters) -> io::Result<()> {
+    let (code, sentence, count) = match propagate_held(area, held) {
+        Ok(stop) => (0, stop.sentence.map_or(0, |k| k.0), stop.count),
+        Err(refusal) => (refusal.code(), 0, 0),
+    };
+    println!(rt; "propagate {code} {sentence} {count} {} {}", held.length, held.level.0)
 }
 
-fn show_give(area: &mut [u64], counters: Counters, literal: i64) -> Counters {
-    let r = give_held(area, counters, literal);
-    io::write_all(1, b"give");
-    number(r.code);
-    let after = r.counters;
-    show_counters(after);
-    after
+fn show_search(
+    rt: &impl Print,
+    area: &mut [u64],
+    held: &mut Counters,
+    literals: &[i64],
+) -> io::Result<()> {
+    let (code, sentence, count, gone) = match search_held(area, held, literals) {
+        Ok(end) => (
+            0,
+            end.stop.sentence.map_or(0, |k| k.0),
+            end.stop.count,
+            end.gone,
+        ),
+        Err(refusal) => (refusal.code(), 0, 0, 0),
+    };
+    println!(rt; "search {code} {sentence} {count} {gone} {} {}", held.length, held.level.0)
 }
 
-fn show_propagate(area: &mut [u64], counters: Counters) -> Counters {
-    let r = propagate_held(area, counters);
-    let outcome = r.outcome;
-    let sentence = outcome.sentence;
-    io::write_all(1, b"propagate");
-    number(outcome.code);
-    number(sentence.0);
-    number(outcome.count);
-    let after = r.counters;
-    show_counters(after);
-    after
-}
-
-fn show_search(area: &mut [u64], counters: Counters, literals: &[i64]) -> Counters {
-    let r = search_held(area, counters, literals);
-    let outcome = r.outcome;
-    let sentence = outcome.sentence;
-    io::write_all(1, b"search");
-    number(outcome.code);
-    number(sentence.0);
-    number(outcome.count);
-    number(outcome.gone);
-    let after = r.counters;
-    show_counters(after);
-    after
-}
-
-fn show_load(area: &mut [u64], first: Weighted, second: Weighted) {
-    let heads = [3u64; 1];
-    let kinds = [0u64; 1];
-    let sides = [1u64; 1];
-    let bounds = [1i64; 1];
-    let counts = [2u64; 1];
-    let entries = [first, second];
+fn show_load(
+    rt: &impl Print,
+    area: &mut [u64],
+    first: Weighted,
+    second: Weighted,
+) -> io::Result<()> {
     let answer = load_two(
         area,
         Atom(3),
-        &heads,
-        &kinds,
-        &sides,
-        &bounds,
-        &counts,
-        entries,
+        Sentences {
+            heads: &[3],
+            kinds: &[0],
+            sides: &[1],
+            bounds: &[1],
+            counts: &[2],
+        },
+        [first, second],
     );
-    let sentence = answer.sentence;
-    io::write_all(1, b"load");
-    number(answer.code);
-    number(sentence.0);
-    io::write_all(1, b"\n");
+    match answer {
+        Ok(_) => println!(rt; "load 0 0"),
+        Err(refusal) => {
+            let told = refusal.answer();
+            println!(rt; "load {} {}", told.code, told.sentence.0)
+        }
+    }
 }
 
-fn main() {
+fn main(rt: HostRuntime) -> io::Result<()> {
     let mut area = [0u64; 24];
     let one = Weighted {
         weight: 1,
@@ -171,26 +132,20 @@ fn main() {
         weight: 2,
         literal: 4,
     };
-    show_load(&mut area, one, strange);
-    show_load(&mut area, one, two);
-    let mut counters = Counters {
-        length: 0,
-        level: Level(0),
-    };
-    counters = show_give(&mut area, counters, 3);
-    counters = show_give(&mut area, counters, 1);
-    counters = show_give(&mut area, counters, 3);
-    let other = Counters {
+    show_load(&rt, &mut area, one, strange)?;
+    show_load(&rt, &mut area, one, two)?;
+    let mut held = Counters::start();
+    show_give(&rt, &mut area, &mut held, 3)?;
+    show_give(&rt, &mut area, &mut held, 1)?;
+    show_give(&rt, &mut area, &mut held, 3)?;
+    let mut other = Counters {
         length: 1,
         level: Level(0),
     };
-    show_propagate(&mut area, other);
-    show_propagate(&mut area, counters);
-    show_load(&mut area, one, two);
-    counters = Counters {
-        length: 0,
-        level: Level(0),
-    };
-    counters = show_search(&mut area, counters, &[3i64, 2, 4]);
-    show_search(&mut area, counters, &[3i64, 2, 1]);
+    show_propagate(&rt, &mut area, &mut other)?;
+    show_propagate(&rt, &mut area, &mut held)?;
+    show_load(&rt, &mut area, one, two)?;
+    held = Counters::start();
+    show_search(&rt, &mut area, &mut held, &[3, 2, 4])?;
+    show_search(&rt, &mut area, &mut held, &[3, 2, 1])
 }

@@ -5,115 +5,91 @@ ghost use Rattle.std.specs.Prelude.{◌≡◌, List, ℕ};
 ghost use Rattle.types.specs.Limits.{Fitting};
 ghost use Rattle.book.specs.Table.{open_level, take_back};
 ghost use Rattle.area.specs.Layout.{level_of};
-ghost use Rattle.calls.specs.Calls.{counted, done_returned, Acts};
+ghost use Rattle.calls.specs.Refusals.{code_in};
+ghost use Rattle.calls.specs.Calls.{counted, counters_after, done_returned, Acts};
 ghost use Rattle.whole.specs.Inner.Usable.{Usable};
 ghost use Rattle.give.specs.Inner.Refused.{refusal_code};
 
-use calls::Done;
+use calls::Refusal;
 use types::{Counters, Level, Limits};
 
-// The code with which an open on an area of that level is refused, 0 for none.
-pub fn open_refusal(lim: Limits, level: u64) -> u64
-    ensures { (w : List ℕ) → level_of w ≡ level → result ≡ refusal_code lim w open_level }
+// Whether an open on an area of that level is refused.
+pub fn check_open(lim: Limits, level: Level) -> Result<(), Refusal>
+    ensures { (w : List ℕ) → level_of w ≡ level.0 → code_in result ≡ refusal_code lim w open_level }
 {
-    if level >= lim.levels {
-        return 14;
+    if level.0 >= lim.levels {
+        return Err(Refusal::HighestLevel);
     }
-    0
+    Ok(())
 }
 
 // On a whole area: only the level in word 0 rises.
-pub fn open_whole(area: &mut [u64], lim: Limits, counters: Counters) -> Done
+pub fn open_whole(area: &mut [u64], lim: Limits, counters: Counters) -> Result<Counters, Refusal>
     requires { Usable lim area.old (counted counters) }
-    ensures { Acts lim area.old area.new (counted counters) (counted result.counters) open_level (done_returned result) }
+    ensures { Acts lim area.old area.new (counted counters) (counted (counters_after counters result)) open_level (done_returned result) }
 {
-    let len = counters.length;
-    let level = counters.level.0;
-    let code = open_refusal(lim, level);
-    if code != 0 {
-        return Done { code, counters };
-    }
+    check_open(lim, counters.level)?;
+    let level = counters.level.0 + 1;
     let n = area::atoms_of(area);
-    trail::set_header(area, n, len as usize, level + 1);
-    let next = Counters {
-        length: len,
-        level: Level(level + 1),
-    };
-    Done {
-        code: 0,
-        counters: next,
-    }
+    trail::set_header(area, n, counters.length as usize, level);
+    Ok(Counters {
+        level: Level(level),
+        ..counters
+    })
 }
 
-pub fn open_within(area: &mut [u64], lim: Limits, counters: Counters) -> Done
+pub fn open_within(area: &mut [u64], lim: Limits, counters: Counters) -> Result<Counters, Refusal>
     requires { Fitting lim }
-    ensures { Acts lim area.old area.new (counted counters) (counted result.counters) open_level (done_returned result) }
+    ensures { Acts lim area.old area.new (counted counters) (counted (counters_after counters result)) open_level (done_returned result) }
 {
-    let len = counters.length;
-    let level = counters.level.0;
-    if !whole::is_whole(area, lim, len, level) {
-        return Done {
-            code: 9,
-            counters: counters,
-        };
+    if !whole::is_whole(area, lim, counters) {
+        return Err(Refusal::NotWhole);
     }
     open_whole(area, lim, counters)
 }
 
-// The code with which taking back to k on an area of that level is refused, 0 for none.
-pub fn take_back_refusal(level: u64, k: u64) -> u64
-    ensures { (lim : Limits) (w : List ℕ) → level_of w ≡ level → result ≡ refusal_code lim w (take_back k) }
+// Whether taking back to a level on an area of that level is refused.
+pub fn check_take_back(level: Level, to: Level) -> Result<(), Refusal>
+    ensures { (lim : Limits) (w : List ℕ) → level_of w ≡ level.0 → code_in result ≡ refusal_code lim w (take_back to.0) }
 {
-    if k > level {
-        return 15;
+    if to.0 > level.0 {
+        return Err(Refusal::LevelAbove);
     }
-    0
+    Ok(())
 }
 
-// On a whole area: the rows above level k go, and each sentence that has an atom of theirs is renewed and marked as pending.
-pub fn take_back_whole(area: &mut [u64], lim: Limits, counters: Counters, k: u64) -> Done
-    requires { Usable lim area.old (counted counters) }
-    ensures { Acts lim area.old area.new (counted counters) (counted result.counters) (take_back k) (done_returned result) }
+// On a whole area: the rows above a level go, and each sentence that has an atom of theirs is renewed and marked as pending.
+pub fn take_back_whole(area: &mut [u64], counters: Counters, to: Level) -> Result<Counters, Refusal>
+    requires { (lim : Limits) × Usable lim area.old (counted counters) }
+    ensures { (lim : Limits) → Usable lim area.old (counted counters) → Acts lim area.old area.new (counted counters) (counted (counters_after counters result)) (take_back to.0) (done_returned result) }
 {
-    let len = counters.length;
-    let level = counters.level.0;
-    let code = take_back_refusal(level, k);
-    if code != 0 {
-        return Done { code, counters };
-    }
-    if k == level {
-        return Done {
-            code: 0,
-            counters: counters,
-        };
+    check_take_back(counters.level, to)?;
+    if to.0 == counters.level.0 {
+        return Ok(counters);
     }
     let n = area::atoms_of(area);
     let sentences = area::sentences_of(area);
     let mut touched = [0u8; 4097];
-    let left = trail::cut(area, n, len as usize, k, &mut touched);
-    trail::set_header(area, n, left, k);
+    let left = trail::cut(area, n, counters.length as usize, to.0, &mut touched);
+    trail::set_header(area, n, left, to.0);
     refresh::refresh(area, n, sentences, &touched);
-    let next = Counters {
+    Ok(Counters {
         length: left as u64,
-        level: Level(k),
-    };
-    Done {
-        code: 0,
-        counters: next,
-    }
+        level: to,
+    })
 }
 
-pub fn take_back_within(area: &mut [u64], lim: Limits, counters: Counters, level: Level) -> Done
+pub fn take_back_within(
+    area: &mut [u64],
+    lim: Limits,
+    counters: Counters,
+    to: Level,
+) -> Result<Counters, Refusal>
     requires { Fitting lim }
-    ensures { Acts lim area.old area.new (counted counters) (counted result.counters) (take_back level.0) (done_returned result) }
+    ensures { Acts lim area.old area.new (counted counters) (counted (counters_after counters result)) (take_back to.0) (done_returned result) }
 {
-    let len = counters.length;
-    let current = counters.level.0;
-    if !whole::is_whole(area, lim, len, current) {
-        return Done {
-            code: 9,
-            counters: counters,
-        };
+    if !whole::is_whole(area, lim, counters) {
+        return Err(Refusal::NotWhole);
     }
-    take_back_whole(area, lim, counters, level.0)
+    take_back_whole(area, counters, to)
 }

@@ -1,5 +1,5 @@
 -- Load's refusal is printed, and an accepted load leaves the state from which the heads are given.
-use mathlib.Core.Path.{◌≡◌, ap, subst, ◌∙◌}
+use mathlib.Core.Path.{◌≡◌, ap, ◌∙◌}
 use mathlib.Core.Bool.{false}
 use mathlib.Core.List.{List}
 use Prim.Native.Nat.{ℕ, ◌+◌, ◌≤◌}
@@ -18,7 +18,9 @@ use Rattle.columns.specs.Columns.{Columns, all_written, sentences_in}
 use Rattle.columns.specs.Refusals.{load_answer}
 use Rattle.columns.specs.declared.Answer.{Answer}
 use Rattle.load.specs.Load.{Loaded, Loads}
-use Rattle.pages.specs.Page.{Writes}
+use Rattle.pages.specs.declared.Page.{Page}
+use Rattle.pages.specs.Page.{Puts}
+use Rattle.pages.proofs.Laws.{puts_as}
 use Rattle.answer_lines.specs.Lines.{refused_line}
 use Rattle.listing.specs.Output.{listing, area_words, loaded, judged_sentences, answered}
 use Rattle.listing_heads.specs.Heads.{heads_given, HeadsAsked, HeadsGiven}
@@ -35,19 +37,18 @@ loaded_state {w} {w'} {n} {xs} l =
     ∙ ap {A = List Row} (λ r. state n (rules_of (sentences_in (all_written xs))) 0 r) l.rows
 
 module _ {w w' : List ℕ} (v c : ℕ) {xs : Columns} {a : Answer} (size : length w ≡ area_words) (h : Loads document w w' (v + c) xs a) where
-  answer_is : a ≡ load_answer document area_words (v + c) xs
-  answer_is = h.answer_is ∙ ap (λ (n : ℕ). load_answer document n (v + c) xs) size
+  answered_is : answered v c (judged_sentences (all_written xs)) a
+      ≡ answered v c (judged_sentences (all_written xs)) (load_answer document area_words (v + c) xs)
+  answered_is = ap (answered v c (judged_sentences (all_written xs))) (h.answer_is ∙ ap (λ (n : ℕ). load_answer document n (v + c) xs) size)
 
-  pub refusal_answered : {old new : List ℕ} {r : ℕ} → (¬ (a.code ≡ 0)) → Writes old 0 new r (refused_line a.code a.sentence.0) → Answers old new r v c xs
-  refusal_answered {old} {new} {r} d p =
-      subst (λ (x : Answer). Writes old 0 new r (answered v c (judged_sentences (all_written xs)) x)) answer_is (rw (ne_eqb a.code 0 d) p)
+  pub refusal_answered : {p q : Page} → (¬ (a.code ≡ 0)) → Puts p q (refused_line a.code a.sentence.0) → Answers p q v c xs
+  refusal_answered d f = puts_as answered_is (rw (ne_eqb a.code 0 d) f)
 
   pub heads_asked : a.code ≡ 0 → v + c ≤ 1024 → HeadsAsked w' v c
   heads_asked z f = record { whole = (h.accepted z).whole; few = omega arith }
 
-  pub listing_answered :
-      {w'' old new : List ℕ} {d : t.Counters} {r : ℕ} → a.code ≡ 0 → HeadsGiven w' w'' v c d → Writes old 0 new r (listing (area_state document w'')) → Answers old new r v c xs
-  listing_answered {w''} {old} {new} {d} {r} z g p =
-      subst (λ (x : Answer). Writes old 0 new r (answered v c (judged_sentences (all_written xs)) x)) answer_is
-      (rw (eq-eqb a.code 0 z)
-      (subst (λ (q : State). Writes old 0 new r (listing q)) (g.stands.state ∙ ap (λ (q : State). heads_given q v c) (loaded_state (h.accepted z))) p))
+  pub listing_answered : {w'' : List ℕ} {p q : Page} {d : t.Counters} → a.code ≡ 0 → HeadsGiven w' w'' v c d
+      → Puts p q (listing (area_state document w'')) → Answers p q v c xs
+  listing_answered z g f =
+      puts_as answered_is
+      (rw (eq-eqb a.code 0 z) (puts_as (ap listing (g.stands.state ∙ ap (λ (q : State). heads_given q v c) (loaded_state (h.accepted z)))) f))

@@ -18,7 +18,8 @@ use Rattle.opb_text.specs.Text.{Constraint, Reading, taken, refused, reading, ro
 use Rattle.opb_text.proofs.Limits.{limits}
 use Rattle.opb_text.proofs.Columns.{same_rows}
 use Rattle.opb_rows.proofs.Stores.{same_columns}
-use Rattle.pages.specs.Page.{Holds, Writes}
+use Rattle.pages.specs.declared.Page.{Page}
+use Rattle.pages.specs.Page.{Holds, Puts}
 use Rattle.pages.proofs.Laws.{starts}
 use Rattle.answer_lines.specs.Lines.{refused_line}
 use Rattle.listing.specs.Output.{area_words, judged_sentences, answered, printed, output, Prints}
@@ -97,5 +98,8 @@ module _ {text : List ℕ} {old new : Columns} {r : Result Read Refusal} (h : Re
           ∙ ap printed (sym e)
 
 -- from the start of the page
-pub prints : {input old new more : List ℕ} {r : ℕ} → Writes old 0 new r more → more ≡ output input → Prints input old new r
-prints {input} {old} {new} {more} {r} w e = record { size = w.size; holds = subst (Holds new r) e (w.goes [] (starts old)) }
+pub prints : {input old more : List ℕ} {p q : Page} → p.end ≡ 0 → p.bytes.now ≡ old → Puts p q more → more ≡ output input → Prints input old q.bytes.now q.end
+prints {p = p} {q = q} z b w e = record {
+  size = w.writes.size ∙ ap length b;
+  holds = subst (Holds q.bytes.now q.end) e (w.writes.goes [] (rw z (starts p.bytes.now)));
+}

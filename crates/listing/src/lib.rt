@@ -3,15 +3,17 @@
 // the area again.
 #![tactic(auto)]
 
-ghost use Rattle.std.specs.Prelude.{◌+◌, ◌≤◌};
+ghost use Rattle.std.specs.Prelude.{◌≡◌, ◌+◌, ◌≤◌};
 ghost use Rattle.types.specs.Limits.{document};
 ghost use Rattle.calls.specs.Calls.{area_state};
-ghost use Rattle.columns.specs.Columns.{seven_columns};
-ghost use Rattle.pages.specs.Page.{Writes};
+ghost use Rattle.columns.specs.Columns.{held};
+ghost use Rattle.pages.specs.Page.{Puts};
 ghost use Rattle.listing_lines.specs.Lines.{WholeArea};
-ghost use Rattle.listing.specs.Output.{listing, Prints};
+ghost use Rattle.listing.specs.Output.{listing, output, Prints};
 ghost use Rattle.listing.specs.Inner.Steps.{Answers};
 
+use columns::Columns;
+use pages::Page;
 use types::{Atom, Counters, Limits};
 
 // The columns and the area that every text within the limits has room in.
@@ -22,59 +24,38 @@ const ENTRIES: usize = Limits::ENTRIES as usize;
 const WORDS: usize = 4 * Limits::ATOMS as usize + 8 * SENTENCES + 2 * ENTRIES;
 
 // Propagate on a whole area, and the listing.
-fn put_listing(page: &mut [u8], at: usize, area: &mut [u64], counters: Counters) -> usize
+fn put_listing(page: &mut Page<'_>, area: &mut [u64], counters: Counters)
     requires { WholeArea area.old counters }
-    ensures { Writes page.old at page.new result (listing (area_state document area.old)) }
+    ensures { Puts page.old page.new (listing (area_state document area.old)) }
 {
-    let answer = propagate::propagate_whole(area, counters);
-    let after = propagate::counters_of(answer);
-    let behind = answer_lines::put_propagated(page, at, answer);
-    listing_lines::put_state(page, behind, area, after)
+    let stopped = propagate::propagate_whole(area, counters);
+    answer_lines::put_stopped(page, stopped);
+    listing_lines::put_state(page, area, stopped.counters());
 }
 
 // ---- the run
 
 // The text's sentences loaded into an area of the program's own, and what follows from the heads.
-fn list_sentences(
-    page: &mut [u8],
-    variables: u64,
-    constraints: u64,
-    heads: &[u64],
-    kinds: &[u64],
-    sides: &[u64],
-    bounds: &[i64],
-    counts: &[u64],
-    weights: &[i64],
-    literals: &[i64],
-) -> usize
+fn list_sentences(page: &mut Page<'_>, variables: u64, constraints: u64, columns: Columns<'_>)
     requires { variables + constraints ≤ document.atoms }
-    ensures { Answers page.old page.new result variables constraints
-        (seven_columns heads.now kinds.now sides.now bounds.now counts.now weights.now
-        literals.now) }
+    ensures { Answers page.old page.new variables constraints (held columns.entry) }
 {
     let mut area = [0u64; WORDS];
-    let loaded = load::load(
-        &mut area,
-        Atom(variables + constraints),
-        heads,
-        kinds,
-        sides,
-        bounds,
-        counts,
-        weights,
-        literals,
-    );
-    let sentence = loaded.sentence;
-    if loaded.code != 0 {
-        return pages::put_pair(page, 0, b"refused ", loaded.code, sentence.0);
+    match load::load(&mut area, Atom(variables + constraints), columns) {
+        Ok(_) => {
+            let given = listing_heads::give_heads(&mut area, variables, constraints);
+            put_listing(page, &mut area, given);
+        }
+        Err(refusal) => {
+            let told = refusal.answer();
+            page.put_pair(b"refused ", told.code, told.sentence.0);
+        }
     }
-    let given = listing_heads::give_heads(&mut area, variables, constraints);
-    put_listing(page, 0, &mut area, given)
 }
 
-// The output for a text, on the page: its length, or a number past the page's end where the page is too short.
-pub fn run(text: &[u8], page: &mut [u8]) -> usize
-    ensures { Prints text.now page.old page.new result }
+// The output for a text, put on a page.
+fn put_output(page: &mut Page<'_>, text: &[u8])
+    ensures { Puts page.old page.new (output text.now) }
 {
     let mut heads = [0u64; SENTENCES];
     let mut kinds = [0u64; SENTENCES];
@@ -93,24 +74,38 @@ pub fn run(text: &[u8], page: &mut [u8]) -> usize
         &mut weights,
         &mut literals,
     );
-    let read = match read {
-        Ok(read) => read,
-        Err(refusal) => {
-            return pages::put_pair(page, 0, b"refused ", refusal.number(), refusal.value());
+    match read {
+        Ok(read) => {
+            let n = read.sentences as usize;
+            let e = read.entries as usize;
+            let columns = Columns {
+                heads: &heads[..n],
+                kinds: &kinds[..n],
+                sides: &sides[..n],
+                bounds: &bounds[..n],
+                counts: &counts[..n],
+                weights: &weights[..e],
+                literals: &literals[..e],
+            };
+            list_sentences(page, read.variables, read.constraints, columns);
         }
-    };
-    let n = read.sentences as usize;
-    let e = read.entries as usize;
-    list_sentences(
-        page,
-        read.variables,
-        read.constraints,
-        &heads[..n],
-        &kinds[..n],
-        &sides[..n],
-        &bounds[..n],
-        &counts[..n],
-        &weights[..e],
-        &literals[..e],
-    )
+        Err(refusal) => page.put_pair(b"refused ", refusal.number(), refusal.value()),
+    }
+}
+
+// The page is given back: the place behind its text.
+fn ended(page: Page<'_>) -> usize
+    ensures place { result ≡ page.entry.end }
+    ensures bytes { page.exit.0.now ≡ page.entry.bytes.now }
+{
+    page.end
+}
+
+// The output for a text, on the page: its length, or a number past the page's end where the page is too short.
+pub fn run(text: &[u8], page: &mut [u8]) -> usize
+    ensures { Prints text.now page.old page.new result }
+{
+    let mut page = Page::new(page);
+    put_output(&mut page, text);
+    ended(page)
 }

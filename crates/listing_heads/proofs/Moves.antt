@@ -2,11 +2,14 @@
 use mathlib.Core.Path.{◌≡◌, refl, sym, ap, ap₂, subst, ◌∙◌}
 use mathlib.Core.Bool.{Bool, true, false, not, cond, ◌||◌}
 use mathlib.Core.List.{List}
-use Prim.Native.Nat.{ℕ, ◌+◌}
+use Prim.Native.Nat.{ℕ, suc, ◌+◌}
+use native.Mathlib.Omega.{arith}
 use native.Mathlib.Numerals.{add-one}
 use lib.ListN.{length}
 use lib.IntN.{ℤ, pos}
 use lib.Dec.{T}
+use Rattle.std.specs.Prelude.{Result, Ok, Err}
+use Rattle.std.specs.Result.{result_unwrap_or}
 use Rattle.types.specs.Limits.{document}
 use Rattle.types.specs.declared.Counters as t
 use Rattle.meaning.specs.Meaning.{atom}
@@ -14,7 +17,8 @@ use Rattle.book.specs.Rows.{Row}
 use Rattle.book.specs.Table.{Call, give, a_step, refused, done, Returned, State, Outcome, unchanged, no_atom, on_trail, effect, reply, following, following_call}
 use Rattle.book.specs.Book.{Counters}
 use Rattle.area.specs.Whole.{Whole}
-use Rattle.calls.specs.Calls.{area_state, counted, is_refusal, unmoved, Moved, Acts}
+use Rattle.calls.specs.declared.Refusal.{Refusal}
+use Rattle.calls.specs.Calls.{area_state, counted, counters_after, is_refusal, unmoved, Moved, Acts}
 use Rattle.give.proofs.Moves.{state_after}
 use Rattle.listing_lines.specs.Lines.{WholeArea}
 use Rattle.listing_heads.specs.Heads.{heads_given, start, HeadsGiven}
@@ -64,17 +68,23 @@ pub heads_none : (w : List ℕ) (v : ℕ) → WholeArea w start → HeadsGiven w
 unfolding heads_given
 heads_none w v h = record { stands = record { whole = h; state = refl }; size = refl }
 
+-- the counters that the caller goes on with
+went_on : (c : t.Counters) (r : Result t.Counters Refusal) → result_unwrap_or r c ≡ counters_after c r
+went_on c (Ok d) = refl
+went_on c (Err e) = refl
+
 pub heads_more :
-    {w w₁ w₂ : List ℕ} {v k : ℕ} {c c' : t.Counters} {p : Returned} (l : ℤ) → l ≡ pos (v + (k + 1)) → HeadsGiven w w₁ v k c → Acts document w₁ w₂ (counted c) (counted c') (give l) p →
-    HeadsGiven w w₂ v (k + 1) c'
+    {w w₁ w₂ : List ℕ} {v k : ℕ} {c d : t.Counters} {p : Returned} (l : ℤ) (r : Result t.Counters Refusal) → l ≡ pos (v + k + 1) → d ≡ result_unwrap_or r c →
+    HeadsGiven w w₁ v k c → Acts document w₁ w₂ (counted c) (counted (counters_after c r)) (give l) p → HeadsGiven w w₂ v (k + 1) d
 unfolding heads_given
-heads_more {w} {w₁} {w₂} {v} {k} {c} {c'} l e g a =
+heads_more {w} {w₁} {w₂} {v} {k} {c} {d} l r e s g a =
     let n = give_next l g.stands.whole a in
+    let f : v + k + 1 ≡ v + suc k = omega arith in
     record {
       stands = record {
-        whole = n.whole;
+        whole = subst (WholeArea w₂) (sym (s ∙ went_on c r)) n.whole;
         state = n.state
-            ∙ ap₂ (λ (q : State) (m : ℤ). following_call q (a_step (give m))) g.stands.state (e ∙ ap (λ (m : ℕ). pos (v + m)) (add-one k))
+            ∙ ap₂ (λ (q : State) (m : ℤ). following_call q (a_step (give m))) g.stands.state (e ∙ ap pos f)
             ∙ ap (heads_given (area_state document w) v) (sym (add-one k));
       };
       size = n.size ∙ g.size;

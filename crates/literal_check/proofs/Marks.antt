@@ -8,20 +8,23 @@ use Prim.Native.Nat.{ℕ, zero, suc, ◌+◌, ◌-◌, ◌<◌, ◌≤◌}
 use native.Mathlib.Omega.{arith}
 use native.Mathlib.Nat.{eq-or-lt_of_le}
 use lib.Dec.{eqb}
-use lib.IntN.{ℤ, pos, negsuc, neg_ℤ}
+use lib.IntN.{ℤ, pos, negsuc, neg_ℤ, nat_abs}
 use lib.ListN.{length, get_or, set, replicate, get_or-replicate}
 use lib.Seq.{get_or-set_same, get_or-set_other}
 use borrow.Author.Tests.{eqb-true, eqb-false}
-use Rattle.decide.proofs.Below.{none_of, some_here}
+use Rattle.decide.proofs.Below.{none_of, none_has, some_here}
 use Rattle.meaning.specs.Meaning.{atom, same}
 use Rattle.meaning.proofs.Orders.{is_true, is_false}
 use Rattle.meaning.proofs.Members.{same→eq, eq→same}
 use Rattle.area.specs.Layout.{sign}
-use Rattle.columns.specs.Indexed.{nth, negated_before}
+use Rattle.meaning.proofs.Trails.{atom_size}
+use Rattle.columns.specs.Refusals.{outside}
+use Rattle.columns.specs.Indexed.{nth, no_literal, negated_before}
+use Rattle.columns.proofs.Clauses.{is_atom}
 
 -- ---- two literals of one atom are opposite where their signs differ
 
-pub sign_low : (l : ℤ) → sign l ≤ 1
+sign_low : (l : ℤ) → sign l ≤ 1
 sign_low (pos a) = omega arith
 sign_low (negsuc a) = omega arith
 
@@ -95,14 +98,35 @@ module _ (ls : List ℤ) (i : ℕ) (met : List ℕ) (size : length met ≡ 4097)
           let o = s.back b l (omega (arith, get_or-set_other met (atom (nth ls i)) b (1 + sign (nth ls i)) 0 d)) in (o.0, omega (arith, o.1), o.2));
     }
 
--- the same as the loop meets it: a is the atom, m its mark
-module _ (ls : List ℤ) (i : ℕ) (met : List ℕ) (size : length met ≡ 4097) (s : Met ls i met) (low : (k : ℕ) → k ≤ i → 1 ≤ atom (nth ls k))
-    (high : atom (nth ls i) < 4097) (a m : ℕ) (is_atom : a ≡ atom (nth ls i)) (is_mark : m ≡ 1 + sign (nth ls i)) where
+-- ---- literal i as the loop meets it: a is its atom, m its mark
+
+-- every literal is of an atom
+atoms : (ls : List ℤ) → no_literal 4096 ls ≡ false → (k : ℕ) → k < length ls → (1 ≤ atom (nth ls k)) × (atom (nth ls k) ≤ 4096)
+atoms ls e k l = is_atom 4096 (atom (nth ls k)) (none_has k (length ls) (λ j. outside 4096 (atom (nth ls j))) e l)
+
+pub record Known (ls : List ℤ) (i a m : ℕ) : Type 0 where
+  pub atom_is : a ≡ atom (nth ls i)
+  pub mark_is : m ≡ 1 + sign (nth ls i)
+  pub low : (k : ℕ) → k ≤ i → 1 ≤ atom (nth ls k)
+  pub high : atom (nth ls i) < 4097
+
+pub known : (ls : List ℤ) (i a m : ℕ) → no_literal 4096 ls ≡ false → i < length ls → a ≡ nat_abs (nth ls i) → m ≡ 1 + sign (nth ls i) → Known ls i a m
+known ls i a m e l size mark =
+    let h = (atoms ls e i l).1 in
+    record { atom_is = size ∙ sym (atom_size (nth ls i)); mark_is = mark; low = λ k q. (atoms ls e k (omega arith)).0; high = omega arith }
+
+pub low_size : {ls : List ℤ} {i a m : ℕ} → Known ls i a m → a < 4097
+low_size k = let h = k.high in omega (arith, k.atom_is)
+
+pub low_mark : {ls : List ℤ} {i a m : ℕ} → Known ls i a m → m ≤ 2
+low_mark {ls} {i} k = omega (arith, k.mark_is, sign_low (nth ls i))
+
+module _ {ls : List ℤ} {i a m : ℕ} (met : List ℕ) (size : length met ≡ 4097) (s : Met ls i met) (k : Known ls i a m) where
   pub step_opposite : get_or met a 0 ≡ 3 - m → negated_before ls i ≡ true
-  step_opposite e = met_opposite ls i met size s low high (rw (is_atom, is_mark) at e)
+  step_opposite e = met_opposite ls i met size s k.low k.high (rw (k.atom_is, k.mark_is) at e)
 
   pub step_none : (get_or met a 0 ≡ 3 - m → ⊥) → negated_before ls i ≡ false
-  step_none d = none_opposite ls i met size s low high (rw (is_atom, is_mark) at d)
+  step_none d = none_opposite ls i met size s k.low k.high (rw (k.atom_is, k.mark_is) at d)
 
   pub step_met : (get_or met a 0 ≡ 3 - m → ⊥) → Met ls (i + 1) (set met a m)
-  step_met d = rw (is_atom, is_mark) (one_met ls i met size s low high (rw (is_atom, is_mark) at d))
+  step_met d = rw (k.atom_is, k.mark_is) (one_met ls i met size s k.low k.high (rw (k.atom_is, k.mark_is) at d))

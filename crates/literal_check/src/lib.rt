@@ -5,63 +5,36 @@
 ghost use Rattle.std.specs.Prelude.{◌≡◌, false, not, ◌||◌, ◌&&◌, ◌+◌};
 ghost use Rattle.types.specs.Limits.{widest};
 ghost use Rattle.meaning.specs.Meaning.{mixes};
-ghost use Rattle.area.specs.Layout.{kind_of, sign};
+ghost use Rattle.kinds.specs.Kinds.{meant};
+ghost use Rattle.area.specs.Layout.{sign};
 ghost use Rattle.columns.specs.Refusals.{outside};
 ghost use Rattle.columns.specs.Indexed.{no_literal, head_inside, negated};
 
-fn no_literal(n: u64, literals: &[i64]) -> bool
-    ensures { result ≡ no_literal n literals.now }
+use kinds::Kind;
+
+fn outside(n: u64, a: u64) -> bool
+    ensures { result ≡ outside n a }
 {
-    let mut i = 0;
-    while i < literals.len() {
-        let l = literals[i];
-        let a = signed::size(l);
-        if a == 0 {
-            return true;
-        }
-        if a > n {
-            return true;
-        }
-        i += 1;
-    }
-    false
+    a == 0 || a > n
 }
 
 pub fn strange(n: u64, head: u64, literals: &[i64]) -> bool
     ensures { result ≡ (outside n head || no_literal n literals.now) }
 {
-    if head == 0 {
-        return true;
-    }
-    if head > n {
-        return true;
-    }
-    no_literal(n, literals)
+    outside(n, head) || literals.iter().any(|l| outside(n, l.unsigned_abs()))
 }
 
 pub fn own_head(head: u64, literals: &[i64]) -> bool
     ensures { result ≡ head_inside head literals.now }
 {
-    let mut i = 0;
-    while i < literals.len() {
-        let l = literals[i];
-        let a = signed::size(l);
-        if a == head {
-            return true;
-        }
-        i += 1;
-    }
-    false
+    literals.iter().any(|l| l.unsigned_abs() == head)
 }
 
 // 1 for an atom as itself, 2 for one negated: two marks add up to 3 where they differ.
 fn mark(literal: i64) -> u8
     ensures { result ≡ 1 + sign literal }
 {
-    if signed::negative(literal) {
-        return 2;
-    }
-    1
+    1 + u8::from(literal.is_negative())
 }
 
 // In the table stands the mark of each atom met so far.
@@ -70,30 +43,20 @@ fn both_signs(literals: &[i64]) -> bool
     ensures { result ≡ negated literals.now }
 {
     let mut met = [0u8; 4097];
-    let mut i = 0;
-    while i < literals.len() {
-        let l = literals[i];
-        let a = signed::size(l) as usize;
-        let m = mark(l);
-        let before = met[a];
-        if before == 3 - m {
+    for literal in literals {
+        let a = literal.unsigned_abs() as usize;
+        let m = mark(*literal);
+        if met[a] == 3 - m {
             return true;
         }
         met[a] = m;
-        i += 1;
     }
     false
 }
 
-pub fn mixed(kind: u64, literals: &[i64]) -> bool
+pub fn mixed(kind: Kind, literals: &[i64]) -> bool
     requires { no_literal widest.atoms literals.now ≡ false }
-    ensures { result ≡ (not (mixes (kind_of kind)) && negated literals.now) }
+    ensures { result ≡ (not (mixes (meant kind)) && negated literals.now) }
 {
-    if kind == 0 {
-        return false;
-    }
-    if kind == 2 {
-        return false;
-    }
-    both_signs(literals)
+    !kind.mixes() && both_signs(literals)
 }

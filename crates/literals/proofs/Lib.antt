@@ -1,2 +1,1 @@
 pub mod Atoms
-pub mod Signs

@@ -4,106 +4,53 @@
 
 ghost use Rattle.std.specs.Prelude.{◌≡◌};
 ghost use Rattle.types.specs.Limits.{Fitting};
-ghost use Rattle.columns.specs.Columns.{seven_columns, all_written};
+ghost use Rattle.columns.specs.Columns.{held, all_written};
+ghost use Rattle.columns.specs.Answers.{answer_of};
 ghost use Rattle.columns.specs.Refusals.{all_refusals, first_refusal, load_answer};
 ghost use Rattle.columns.specs.Decides.{Shaped};
 
-use columns::{Answer, Sizes};
-use types::{Limits, Sentence};
+use columns::{Columns, Refusal};
+use types::{Atom, Limits, Sentence};
 
-fn first_refused(
-    lim: Limits,
-    n: u64,
-    heads: &[u64],
-    kinds: &[u64],
-    sides: &[u64],
-    bounds: &[i64],
-    counts: &[u64],
-    weights: &[i64],
-    literals: &[i64],
-) -> Answer
-    requires { Fitting lim × Shaped lim n (seven_columns heads.now kinds.now sides.now bounds.now counts.now weights.now literals.now) }
-    ensures { result ≡ first_refusal (all_refusals lim n 1 (all_written (seven_columns heads.now kinds.now sides.now bounds.now counts.now weights.now literals.now))) }
+fn check_sentences(lim: Limits, n: u64, columns: Columns<'_>) -> Result<(), Refusal>
+    requires { Fitting lim × Shaped lim n (held columns) }
+    ensures { answer_of result ≡ first_refusal (all_refusals lim n 1 (all_written (held columns.entry))) }
 {
-    let mut s = 0;
     let mut from = 0;
-    while s < heads.len() {
-        let to = from + counts[s] as usize;
-        let code = sentence_check::sentence_refusal(
+    for s in 0..columns.heads.len() {
+        let to = from + columns.counts[s] as usize;
+        if let Err(fault) = sentence_check::check_sentence(
             lim,
             n,
-            heads[s],
-            kinds[s],
-            sides[s],
-            bounds[s],
-            &weights[from..to],
-            &literals[from..to],
-        );
-        if code != 0 {
-            return Answer {
-                code,
-                sentence: Sentence(s as u64 + 1),
-            };
+            columns.heads[s],
+            columns.kinds[s],
+            columns.sides[s],
+            columns.bounds[s],
+            &columns.weights[from..to],
+            &columns.literals[from..to],
+        ) {
+            return Err(Refusal::Faulty(Sentence(s as u64 + 1), fault));
         }
         from = to;
-        s += 1;
     }
-    Answer {
-        code: 0,
-        sentence: Sentence(0),
-    }
+    Ok(())
 }
 
-// What load answers, before a word is written: 0 and no sentence, or the first refusal that applies.
-pub fn refusal(
-    words: usize,
-    lim: Limits,
-    atoms: u64,
-    heads: &[u64],
-    kinds: &[u64],
-    sides: &[u64],
-    bounds: &[i64],
-    counts: &[u64],
-    weights: &[i64],
-    literals: &[i64],
-) -> Answer
+// The first refusal of load that applies, before a word is written.
+pub fn check(words: usize, lim: Limits, atoms: Atom, columns: Columns<'_>) -> Result<(), Refusal>
     requires { Fitting lim }
-    ensures { result ≡ load_answer lim words atoms (seven_columns heads.now kinds.now sides.now bounds.now counts.now weights.now literals.now) }
+    ensures { answer_of result ≡ load_answer lim words atoms.0 (held columns.entry) }
 {
-    if shape_check::past_limits(lim, atoms, heads.len() as u64, weights.len() as u64) {
-        return Answer {
-            code: 1,
-            sentence: Sentence(0),
-        };
+    let sentences = columns.heads.len();
+    let entries = columns.weights.len();
+    if shape_check::past_limits(lim, atoms.0, sentences as u64, entries as u64)
+        || shape_check::unequal(columns)
+        || !shape_check::adds_up(columns.counts, entries as u64)
+    {
+        return Err(Refusal::Misshapen);
     }
-    let sizes = Sizes {
-        heads: heads.len(),
-        kinds: kinds.len(),
-        sides: sides.len(),
-        bounds: bounds.len(),
-        counts: counts.len(),
-        weights: weights.len(),
-        literals: literals.len(),
-    };
-    if shape_check::unequal(sizes) {
-        return Answer {
-            code: 1,
-            sentence: Sentence(0),
-        };
+    if words < 4 * atoms.0 as usize + 8 * sentences + 2 * entries {
+        return Err(Refusal::TooShort);
     }
-    if !shape_check::adds_up(counts, weights.len() as u64) {
-        return Answer {
-            code: 1,
-            sentence: Sentence(0),
-        };
-    }
-    if words < 4 * atoms as usize + 8 * heads.len() + 2 * weights.len() {
-        return Answer {
-            code: 2,
-            sentence: Sentence(0),
-        };
-    }
-    first_refused(
-        lim, atoms, heads, kinds, sides, bounds, counts, weights, literals,
-    )
+    check_sentences(lim, atoms.0, columns)
 }

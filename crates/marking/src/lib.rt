@@ -6,45 +6,36 @@ ghost use Rattle.std.specs.Prelude.{◌<◌};
 ghost use Rattle.marking.specs.Inner.Marks.{Markable, CauseNamed, MarkStep, Reached, Adds};
 
 // Marks the positions before `limit` whose literals sentence s, counted from 0, names as causes.
-fn mark_causes(area: &[u64], n: usize, sentences: usize, s: usize, limit: usize, marks: &mut [u8])
+fn mark_causes(area: &[u64], n: usize, sentences: usize, s: usize, limit: usize, marks: &mut [bool])
     requires { Markable area.now n sentences limit marks.old × (s < sentences) }
     ensures { Adds (CauseNamed area.now n sentences s limit) marks.old marks.new }
 {
     let base = 4 * n + 8 * s;
-    let merged = area::merged_at(area, base);
-    let mut place: usize = 0;
-    while place <= merged {
-        let p = causes::cause_at(area, n, sentences, base, place, limit);
-        if p < limit {
-            marks[p] = 1;
+    for place in 0..=area::merged_at(area, base) {
+        if let Some(row) = causes::cause_at(area, n, sentences, base, place, limit) {
+            marks[row] = true;
         }
-        place += 1;
     }
 }
 
 // Handles one position: where it is marked, its causes are.
-fn mark_one(area: &[u64], n: usize, sentences: usize, position: usize, marks: &mut [u8])
+fn mark_one(area: &[u64], n: usize, sentences: usize, position: usize, marks: &mut [bool])
     requires { Markable area.now n sentences position marks.old }
     ensures { Adds (MarkStep area.now n sentences marks.old position) marks.old marks.new }
 {
-    if marks[position] == 0 {
-        return;
-    }
     let reason = area::row_reason(area, n, position);
-    if reason == 0 {
-        return;
+    if marks[position] && reason != 0 {
+        mark_causes(area, n, sentences, reason - 1, position, marks);
     }
-    mark_causes(area, n, sentences, reason - 1, position, marks);
 }
 
 // Marks what the marked positions from `position` down rest on: handles one position, then calls itself on the one before.
-pub fn mark(area: &[u64], n: usize, sentences: usize, position: usize, marks: &mut [u8])
+pub fn mark(area: &[u64], n: usize, sentences: usize, position: usize, marks: &mut [bool])
     requires { Markable area.now n sentences position marks.old }
     ensures { Adds (Reached area.now n sentences position marks.old) marks.old marks.new }
 {
     mark_one(area, n, sentences, position, marks);
-    if position == 0 {
-        return;
+    if position > 0 {
+        mark(area, n, sentences, position - 1, marks);
     }
-    mark(area, n, sentences, position - 1, marks);
 }

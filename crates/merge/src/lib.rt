@@ -4,12 +4,13 @@
 
 ghost use Rattle.std.specs.Prelude.{◌*◌, ◌≤◌, length};
 ghost use Rattle.types.specs.Limits.{widest};
+ghost use Rattle.kinds.specs.Kinds.{meant};
 ghost use Rattle.gather.specs.Inner.Gather.{Mergeable};
 ghost use Rattle.merge.specs.Inner.Into.{Sifted, MergedInto};
 
 use gather::Merged;
-
-const HALF: u64 = 4_611_686_018_427_387_904;
+use kinds::Kind;
+use types::HALF;
 
 // The second pass, in sums and counts: the entries of weight 0 are left out. Says how many there are then.
 fn sift(part: &mut [u64], count: usize) -> usize
@@ -17,12 +18,11 @@ fn sift(part: &mut [u64], count: usize) -> usize
     ensures { Sifted part.old part.new count result }
 {
     let mut m = 0;
-    let mut k = 0;
-    while k < count {
+    for k in 0..count {
         let x = part[2 * k];
         let l = part[2 * k + 1];
-        k += 1;
-        if x != HALF {
+        let kept = x != HALF;
+        if kept {
             part[2 * m] = x;
             part[2 * m + 1] = l;
             m += 1;
@@ -31,23 +31,16 @@ fn sift(part: &mut [u64], count: usize) -> usize
     m
 }
 
-pub fn merge_into(part: &mut [u64], kind: u64, weights: &[i64], literals: &[i64]) -> Merged
-    requires { Mergeable part.old kind weights.now literals.now }
-    ensures { MergedInto part.new kind weights.now literals.now result }
+pub fn merge_into(part: &mut [u64], kind: Kind, weights: &[i64], literals: &[i64]) -> Merged
+    requires { Mergeable part.old (meant kind) weights.now literals.now }
+    ensures { MergedInto part.new (meant kind) weights.now literals.now result }
 {
     let m = gather::gather(part, kind, weights, literals);
-    let all = m.count;
-    if entry_words::mixing(kind) {
-        let count = sift(part, all);
+    if kind.mixes() {
+        let count = sift(part, m.count);
         blank::blank_words(part, 2 * count, part.len());
-        return Merged {
-            count,
-            constant: m.constant,
-        };
+        return Merged { count, ..m };
     }
-    blank::blank_words(part, 2 * all, part.len());
-    Merged {
-        count: all,
-        constant: 0,
-    }
+    blank::blank_words(part, 2 * m.count, part.len());
+    Merged { constant: 0, ..m }
 }

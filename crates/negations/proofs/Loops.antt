@@ -1,6 +1,7 @@
 -- The negated causes from a place on: a place whose atom has a literal among the rows has one more than the next place, and another as
 -- many. So the number found so far and those from here on make up all, and so do the numbers written and those from here on.
 use mathlib.Core.Path.{◌≡◌, refl, sym, ◌∙◌, ap}
+use mathlib.Core.Bool.{true, false}
 use mathlib.Core.List.{List, [], ◌∷◌, ◌++◌, map, append-nil, append_assoc}
 use Prim.Native.Nat.{ℕ, ◌+◌, ◌<◌, ◌≤◌}
 use native.Mathlib.Omega.{arith}
@@ -8,12 +9,14 @@ use native.Mathlib.Numerals.{add-one}
 use lib.IntN.{ℤ, neg_ℤ}
 use lib.ListN.{length, get_or, take, drop, set, take-append-drop, length-set, length-map}
 use lib.Seq.{take-suc-set, drop-set-lt, drop-drop}
+use Rattle.std.specs.Prelude.{Option, Some, None}
+use Rattle.std.specs.Option.{is_some}
 use Rattle.meaning.specs.Merge.{scope}
 use Rattle.book.specs.Rows.{pick, causes}
-use Rattle.area.specs.Layout.{merged_at, row_at, rule_at}
-use Rattle.causes.specs.Inner.Causes.{before, CausesAsked, CauseAt}
+use Rattle.area.specs.Layout.{merged_at, rule_at}
+use Rattle.causes.specs.Inner.Causes.{before, CausesAsked}
 use Rattle.causes.proofs.Places.{scope_length, causes_next, causes_end, causes_few}
-use Rattle.negations.specs.Inner.Negations.{negations, overwritten}
+use Rattle.negations.specs.Inner.Negations.{negations, NegationAt, overwritten}
 
 -- those from a place on
 abbrev pub negations_from : List ℕ → ℕ → ℕ → ℕ → ℕ → ℕ → List ℤ
@@ -61,45 +64,48 @@ module _ {w : List ℕ} {n S b limit : ℕ} where
 
     -- ---- one place
 
-    module _ (i : ℕ) {r : ℕ} (inside : i ≤ merged_at w b) (at_place : CauseAt w n (get_or sc i 0) limit r) where
+    module _ (i : ℕ) (inside : i ≤ merged_at w b) where
       next : from i ≡ map neg_ℤ (pick (before w n limit) (get_or sc i 0) (causes (before w n limit) (drop (i + 1) sc)))
       next = ap {A = List ℤ} (map neg_ℤ) (causes_next (before w n limit) sc i (omega (arith, scope_length w n S b q.sentence)))
 
-      found_here : r < limit → from i ≡ neg_ℤ (row_at w n r).literal ∷ from (i + 1)
-      found_here h = next ∙ ap {A = List ℤ} (map neg_ℤ) (at_place.stands h (causes (before w n limit) (drop (i + 1) sc)))
+      not_here : NegationAt w n (get_or sc i 0) limit None → from i ≡ from (i + 1)
+      not_here off = next ∙ ap {A = List ℤ} (map neg_ℤ) (off (causes (before w n limit) (drop (i + 1) sc)))
 
-      not_here : limit ≤ r → from i ≡ from (i + 1)
-      not_here h = next ∙ ap {A = List ℤ} (map neg_ℤ) (at_place.absent (omega (arith, at_place.few)) (causes (before w n limit) (drop (i + 1) sc)))
+      found_here : (z : ℤ) → NegationAt w n (get_or sc i 0) limit (Some z) → from i ≡ z ∷ from (i + 1)
+      found_here z at_place = next ∙ at_place (causes (before w n limit) (drop (i + 1) sc))
 
-      pub counted_more : (found : ℕ) → r < limit → Counted w n S b limit i found → Counted w n S b limit (i + 1) (found + 1)
-      counted_more found h e = omega (arith, e, ap {A = List ℤ} length (found_here h))
+      pub counted_more : (found : ℕ) (r : Option ℤ) → NegationAt w n (get_or sc i 0) limit r → is_some r ≡ true → Counted w n S b limit i found
+          → Counted w n S b limit (i + 1) (found + 1)
+      counted_more found None off t e = cc
+      counted_more found (Some z) at_place t e = omega (arith, e, ap {A = List ℤ} length (found_here z at_place))
 
-      pub counted_same : (found : ℕ) → limit ≤ r → Counted w n S b limit i found → Counted w n S b limit (i + 1) found
-      counted_same found h e = omega (arith, e, ap {A = List ℤ} length (not_here h))
+      pub counted_same : (found : ℕ) (r : Option ℤ) → NegationAt w n (get_or sc i 0) limit r → is_some r ≡ false → Counted w n S b limit i found
+          → Counted w n S b limit (i + 1) found
+      counted_same found None off t e = omega (arith, e, ap {A = List ℤ} length (not_here off))
+      counted_same found (Some z) at_place t e = cc
 
       module _ {start at : ℕ} {old list : List ℤ} (x : Writing w n S b limit start old i at list) where
-        pub room_here : start + length (negations w n S b limit) ≤ length old → r < limit → at < length list
-        room_here fits h = omega (arith, fits, x.size, x.end, ap {A = List ℤ} length (found_here h))
-
-        pub writing_more : {z : ℤ} → start + length (negations w n S b limit) ≤ length old → r < limit → z ≡ neg_ℤ (row_at w n r).literal
-            → Writing w n S b limit start old (i + 1) (at + 1) (set list at z)
-        writing_more {z} fits h e = record {
-          size = length-set list at z ∙ x.size;
-          end = omega (arith, x.end, ap {A = List ℤ} length (found_here h));
-          front =
-              ap {A = ℕ} (λ m. take m (set list at z) ++ from (i + 1)) (add-one at)
-              ∙ ap {A = List ℤ} (λ l. l ++ from (i + 1)) (take-suc-set list at z (room_here fits h))
-              ∙ append_assoc (take at list) (z ∷ []) (from (i + 1))
-              ∙ ap {A = ℤ} (λ y. take at list ++ (y ∷ from (i + 1))) e
-              ∙ ap {A = List ℤ} (λ l. take at list ++ l) (sym (found_here h))
-              ∙ x.front;
-          rest = drop-set-lt (at + 1) list at z (omega arith) ∙ sym (drop-drop 1 at list) ∙ ap {A = List ℤ} (drop 1) x.rest ∙ drop-drop 1 at old;
-        }
-
-        pub writing_same : limit ≤ r → Writing w n S b limit start old (i + 1) at list
-        writing_same h = record {
+        pub writing_same : NegationAt w n (get_or sc i 0) limit None → Writing w n S b limit start old (i + 1) at list
+        writing_same off = record {
           size = x.size;
-          end = omega (arith, x.end, ap {A = List ℤ} length (not_here h));
-          front = ap {A = List ℤ} (λ l. take at list ++ l) (sym (not_here h)) ∙ x.front;
+          end = omega (arith, x.end, ap {A = List ℤ} length (not_here off));
+          front = ap {A = List ℤ} (λ l. take at list ++ l) (sym (not_here off)) ∙ x.front;
           rest = x.rest;
         }
+
+        module _ (fits : start + length (negations w n S b limit) ≤ length old) (z : ℤ) (at_place : NegationAt w n (get_or sc i 0) limit (Some z)) where
+          pub room_here : at < length list
+          room_here = omega (arith, fits, x.size, x.end, ap {A = List ℤ} length (found_here z at_place))
+
+          pub writing_more : Writing w n S b limit start old (i + 1) (at + 1) (set list at z)
+          writing_more = record {
+            size = length-set list at z ∙ x.size;
+            end = omega (arith, x.end, ap {A = List ℤ} length (found_here z at_place));
+            front =
+                ap {A = ℕ} (λ m. take m (set list at z) ++ from (i + 1)) (add-one at)
+                ∙ ap {A = List ℤ} (λ l. l ++ from (i + 1)) (take-suc-set list at z room_here)
+                ∙ append_assoc (take at list) (z ∷ []) (from (i + 1))
+                ∙ ap {A = List ℤ} (λ l. take at list ++ l) (sym (found_here z at_place))
+                ∙ x.front;
+            rest = drop-set-lt (at + 1) list at z (omega arith) ∙ sym (drop-drop 1 at list) ∙ ap {A = List ℤ} (drop 1) x.rest ∙ drop-drop 1 at old;
+          }

@@ -12,8 +12,7 @@ use lib.IntN.{ℤ, pos}
 use borrow.Author.Tests.{ltb-false}
 use Rattle.meaning.specs.Meaning.{Entry}
 use Rattle.columns.specs.Columns.{Columns, seven_columns}
-use Rattle.columns.specs.Indexed.{sizes}
-use Rattle.columns.specs.declared.Sizes.{Sizes}
+use Rattle.columns.specs.Indexed.{Sizes, sizes}
 use Rattle.opb_grammar.specs.declared.State.{State}
 use Rattle.std.specs.Prelude.{Option, Some, None, Ok, Err}
 use Rattle.opb_grammar.specs.declared.Fault.{Fault}

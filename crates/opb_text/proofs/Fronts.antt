@@ -9,8 +9,7 @@ use lib.Seq.{sets, length-sets, slice, take_at, drop_at}
 use lib.IntN.{ℤ, pos}
 use Rattle.meaning.specs.Meaning.{Entry}
 use Rattle.columns.specs.Columns.{Columns, seven_columns, Written}
-use Rattle.columns.specs.Indexed.{sizes}
-use Rattle.columns.specs.declared.Sizes.{Sizes}
+use Rattle.columns.specs.Indexed.{Sizes, sizes}
 use Rattle.opb_grammar.specs.declared.State.{State}
 use Rattle.opb_text.specs.Text.{Constraint, term_of, constraint_of, sum_row, rows_of, rows_from, all_entries, columns_of, over, over_all}
 use Rattle.opb_rows.specs.Signed.{signed_of}

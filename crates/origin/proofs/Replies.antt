@@ -8,13 +8,15 @@ use Prim.Native.Nat.{ℕ, ◌<◌, ◌≤◌}
 use lib.IntN.{ℤ}
 use lib.ListN.{length}
 use borrow.Author.Tests.{lt-ltb, le-ltb}
+use Rattle.std.specs.Prelude.{Result, Err}
 use Rattle.types.specs.declared.Limits.{Limits}
 use Rattle.numbers.proofs.Words.{cases}
 use Rattle.book.specs.Rows.{origins}
 use Rattle.book.specs.Table.{Report, origin, refused, listed, scopes, no_atom, stands, reply, a_report, reported}
 use Rattle.book.specs.Book.{judged_all}
 use Rattle.area.specs.Layout.{rows_of, theory_of}
-use Rattle.calls.specs.declared.Listed.{Listed}
+use Rattle.calls.specs.declared.Refusal.{Refusal}
+use Rattle.calls.specs.declared.Refusal.TheVariants.{TooShort}
 use Rattle.calls.specs.Calls.{area_state}
 use Rattle.causes.specs.Inner.Listing.{Listing}
 use Rattle.causes.proofs.Listing.{listing_refused, listing_done}
@@ -50,7 +52,7 @@ module _ (lim : Limits) (w : List ℕ) (l : ℤ) (old : List ℤ) where
       unfolding reply
       enough h = rw (known, on, le-ltb (length old) (length ls) h)
 
-      listing_handed : (new : List ℤ) (r : Listed) → Handed ls old new r → Listing lim w call old new r
+      listing_handed : (new : List ℤ) (r : Result ℕ Refusal) → Handed ls old new r → Listing lim w call old new r
       listing_handed new r h =
           ⊎_elim
           (λ (q : length ls ≤ length old).
@@ -59,10 +61,10 @@ module _ (lim : Limits) (w : List ℕ) (l : ℤ) (old : List ℤ) where
           (λ (q : length old < length ls).
           let x = h.short q in
           subst (Listing lim w call old new) (sym x.0)
-          (subst (λ y. Listing lim w call old y (record { code = 18; value = length ls })) (sym x.1) (listing_refused lim w call old 18 (length ls) (short q))))
+          (subst (λ y. Listing lim w call old y (Err (TooShort (length ls)))) (sym x.1) (listing_refused lim w call old (TooShort (length ls)) (short q))))
           (cases (length old) (length ls))
 
-  pub listing_at : {p : ℕ} → OnTrail w l p → (new : List ℤ) (r : Listed) → Handed (origins_at w p) old new r → Listing lim w call old new r
+  pub listing_at : {p : ℕ} → OnTrail w l p → (new : List ℤ) (r : Result ℕ Refusal) → Handed (origins_at w p) old new r → Listing lim w call old new r
   listing_at on new r x =
-      listing_handed on.known (on.position.stands on.inside) new r
-      (subst (λ k. Handed (origins (scopes (judged_all (theory_of w))) (rows_of w) k) old new r) (on.position.literal_is on.inside) x)
+      listing_handed on.known on.position.found new r
+      (subst (λ k. Handed (origins (scopes (judged_all (theory_of w))) (rows_of w) k) old new r) on.position.literal_is x)

@@ -7,7 +7,7 @@ ghost use Rattle.area.specs.Whole.{Whole};
 ghost use Rattle.calls.specs.Calls.{counted, listed_returned, Reports};
 ghost use Rattle.causes.specs.Inner.Listing.{Listing};
 
-use calls::Listed;
+use calls::Refusal;
 use types::{Counters, Limits};
 
 // The answer on a whole area, and the list.
@@ -17,18 +17,12 @@ fn origin_whole(
     counters: Counters,
     literal: i64,
     list: &mut [i64],
-) -> Listed
+) -> Result<u64, Refusal>
     requires { Fitting lim × Whole lim area.now (counted counters) }
     ensures { Listing lim area.now (origin literal) list.old list.new result }
 {
-    let at = located::locate(area, literal);
-    if at.code != 0 {
-        return Listed {
-            code: at.code,
-            value: 0,
-        };
-    }
-    origins::list_origins(area, at.position, list)
+    let position = located::locate(area, literal)?;
+    origins::list_origins(area, position, list)
 }
 
 pub fn origin_within(
@@ -37,13 +31,12 @@ pub fn origin_within(
     counters: Counters,
     literal: i64,
     list: &mut [i64],
-) -> Listed
+) -> Result<u64, Refusal>
     requires { Fitting lim }
     ensures { Reports lim area.now (counted counters) (origin literal) list.old list.new (listed_returned result) }
 {
-    let level = counters.level;
-    if !whole::is_whole(area, lim, counters.length, level.0) {
-        return Listed { code: 9, value: 0 };
+    if !whole::is_whole(area, lim, counters) {
+        return Err(Refusal::NotWhole);
     }
     origin_whole(area, lim, counters, literal, list)
 }

@@ -1,29 +1,27 @@
--- A table with one mark, at a position of the trail: what marking makes of it chooses the origins of the literal there, and these are
--- handed over.
-use mathlib.Core.Path.{◌≡◌, refl, ◌∙◌, ap}
+-- A table with one mark, at a position of the trail: what marking makes of it chooses the origins of the literal there.
+use mathlib.Core.Path.{◌≡◌, refl, sym, ◌∙◌, ap}
+use mathlib.Core.Bool.{Bool, true, false, true≢false}
 use mathlib.Core.Logic.{⊎_elim}
 use mathlib.Core.List.{List}
 use Prim.Native.Nat.{ℕ, zero, suc, ◌<◌, ◌≤◌}
 use native.Mathlib.Omega.{arith}
-use lib.IntN.{ℤ}
 use lib.ListN.{length, get_or, set, replicate, length-set, length-replicate}
 use Rattle.area.specs.Layout.{atoms_of, sentences_of, length_of}
-use Rattle.calls.specs.declared.Listed.{Listed}
 use Rattle.trail_check.proofs.Few.{few_places}
 use Rattle.whole.proofs.Gives.{ready}
 use Rattle.causes.proofs.Gives.{trail_asked}
 use Rattle.marking.specs.Inner.Marks.{Marked, Markable, Reached, Adds}
-use Rattle.chosen.specs.Inner.Chosen.{Choosable, chosen_literals, in_front}
-use Rattle.origins.specs.Inner.Origins.{OriginsAsked, Blank, origins_at, Choice, Handed}
+use Rattle.chosen.specs.Inner.Chosen.{Choosable, chosen_literals}
+use Rattle.origins.specs.Inner.Origins.{OriginsAsked, Blank, origins_at, Choice}
 use Rattle.marking.proofs.Naming.{mark_set, mark_only}
 use Rattle.origins.proofs.Reaching.{chosen_origins}
 
--- ---- a table of zeros
+-- ---- a table without marks
 
-zeros : (k i : ℕ) → get_or {A = ℕ} (replicate k 0) i 0 ≡ 0
-zeros zero i = refl
-zeros (suc k) zero = refl
-zeros (suc k) (suc i) = zeros k i
+unmarked : (k i : ℕ) → get_or {A = Bool} (replicate k false) i false ≡ false
+unmarked zero i = refl
+unmarked (suc k) zero = refl
+unmarked (suc k) (suc i) = unmarked k i
 
 -- ---- one mark
 
@@ -43,14 +41,14 @@ module _ (w : List ℕ) (p : ℕ) (asked : OriginsAsked w p) where
   small : n ≤ 4096
   small = omega (arith, asked.whole.theory.atoms_high, asked.fitting.atoms)
 
-  pub zeros_blank : Blank w (replicate 4097 0)
-  zeros_blank = record { none = zeros 4097; room = omega (arith, few, small, length-replicate {A = ℕ} 4097 0) }
+  pub unmarked_blank : Blank w (replicate 4097 false)
+  unmarked_blank = record { none = unmarked 4097; room = omega (arith, few, small, length-replicate {A = Bool} 4097 false) }
 
-  module _ (m₀ : List ℕ) (blank : Blank w m₀) where
+  module _ (m₀ : List Bool) (blank : Blank w m₀) where
     pub inside : p < length m₀
     inside = omega (arith, asked.position, blank.room)
 
-    module _ (m : List ℕ) (same_size : length m ≡ length m₀) where
+    module _ (m : List Bool) (same_size : length m ≡ length m₀) where
       pub markable : Markable w n S p m
       markable = record {
         rows = len;
@@ -64,35 +62,14 @@ module _ (w : List ℕ) (p : ℕ) (asked : OriginsAsked w p) where
       pub choosable : Choosable w n len m
       choosable = record { few = few; words = omega (arith, asked.whole.enough); marks = omega (arith, blank.room) }
 
-    abbrev table : List ℕ
-    table = set m₀ p 1
+    abbrev table : List Bool
+    table = set m₀ p true
 
     sole : (i : ℕ) → Marked table i → i ≡ p
-    sole i h = ⊎_elim (λ x. let b : ⊥ = omega (arith, x, blank.none i) in absurd b) (λ e. e) (mark_only m₀ p inside i h)
+    sole i h = ⊎_elim (λ x. absurd (true≢false (sym x ∙ blank.none i))) (λ e. e) (mark_only m₀ p inside i h)
 
-    pub choice : (m : List ℕ) → Adds (Reached w n S p table) table m → (r : ℕ) → r ≡ length (chosen_literals w n m len) → Choice w p m r
+    pub choice : (m : List Bool) → Adds (Reached w n S p table) table m → (r : ℕ) → r ≡ length (chosen_literals w n m len) → Choice w p m r
     choice m a r e =
         let are : chosen_literals w n m len ≡ origins_at w p =
         chosen_origins asked.lim w asked.counters asked.whole p asked.position table (mark_set m₀ p inside) sole m a len (omega arith) in
-        record { choosable = choosable m (a.size ∙ length-set m₀ p 1); literals = are; counted = e ∙ ap length are }
-
--- ---- the list
-
-module _ (w : List ℕ) (p : ℕ) (m : List ℕ) (r : ℕ) (c : Choice w p m r) (old : List ℤ) where
-  abbrev ls : List ℤ
-  ls = chosen_literals w (atoms_of w) m (length_of w)
-
-  pub fits : r ≤ length old → length ls ≤ length old
-  fits h = omega (arith, c.counted, ap length c.literals)
-
-  pub handed_short : length old < r → Handed (origins_at w p) old old (record { code = 18; value = r })
-  handed_short h = record {
-    short = λ _. (ap {A = ℕ} {B = Listed} (λ k. record { code = 18; value = k }) c.counted, refl);
-    enough = λ l. let b : ⊥ = omega (arith, c.counted) in absurd b;
-  }
-
-  pub handed_enough : r ≤ length old → (new : List ℤ) → new ≡ in_front ls old → Handed (origins_at w p) old new (record { code = 0; value = r })
-  handed_enough h new e = record {
-    short = λ l. let b : ⊥ = omega (arith, c.counted) in absurd b;
-    enough = λ _. (ap {A = ℕ} {B = Listed} (λ k. record { code = 0; value = k }) c.counted, e ∙ ap {A = List ℤ} (λ xs. in_front xs old) c.literals);
-  }
+        record { choosable = choosable m (a.size ∙ length-set m₀ p true); literals = are; counted = e ∙ ap length are }

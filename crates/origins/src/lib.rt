@@ -3,34 +3,33 @@
 
 ghost use Rattle.origins.specs.Inner.Origins.{OriginsAsked, Blank, origins_at, Choice, Handed};
 
-use calls::Listed;
+use calls::Refusal;
 
 // Marks what the literal at a position rests on, in a table without marks, and counts the given literals among it.
-fn choose(area: &[u64], position: usize, marks: &mut [u8]) -> usize
+fn choose(area: &[u64], position: usize, marks: &mut [bool]) -> usize
     requires { OriginsAsked area.now position × Blank area.now marks.old }
     ensures { Choice area.now position marks.new result }
 {
     let n = area::atoms_of(area);
     let sentences = area::sentences_of(area);
     let rows = area::length_of(area);
-    marks[position] = 1;
+    marks[position] = true;
     marking::mark(area, n, sentences, position, marks);
     chosen::count_chosen(area, n, rows, marks)
 }
 
 // The origins of the literal at a position of a whole area's trail, or 18 with their number.
-pub fn list_origins(area: &[u64], position: usize, list: &mut [i64]) -> Listed
+pub fn list_origins(area: &[u64], position: usize, list: &mut [i64]) -> Result<u64, Refusal>
     requires { OriginsAsked area.now position }
     ensures { Handed (origins_at area.now position) list.old list.new result }
 {
-    let mut marks = [0u8; 4097];
+    let mut marks = [false; 4097];
     let needed = choose(area, position, &mut marks);
-    let value = needed as u64;
     if list.len() < needed {
-        return Listed { code: 18, value };
+        return Err(Refusal::TooShort(needed as u64));
     }
     let n = area::atoms_of(area);
     let rows = area::length_of(area);
     chosen::write_chosen(area, n, rows, &marks, list);
-    Listed { code: 0, value }
+    Ok(needed as u64)
 }

@@ -13,10 +13,11 @@ use Rattle.std.specs.Prelude.{int_lt}
 use lib.Dec.{leb}
 use borrow.Author.Tests.{lt-ltb, le-ltb, ltb-true, leb-true, leb-false}
 use Rattle.io.specs.Digits.{last_digits, hex_digit_ascii, IsDigitCount}
-use Rattle.pages.specs.Page.{Writes}
+use Rattle.pages.specs.declared.Page.{Page}
+use Rattle.pages.specs.Page.{Puts}
 use Rattle.pages.specs.Lines.{named}
 use Rattle.numbers.specs.Text.{decimal_within, decimal, signed_decimal}
-use Rattle.pages.proofs.Laws.{then}
+use Rattle.pages.proofs.Laws.{then, puts_as}
 
 last : (n : ℕ) → hex_digit_ascii (n % 10) ≡ 48 + n % 10
 last n = rw (lt-ltb (n % 10) 10 (omega arith))
@@ -43,23 +44,25 @@ few_digits n k h f false e =
     let m : 10 ^ (k - 1) ≤ n = f (omega arith) in
     let b : ⊥ = omega arith in absurd b
 
-pub number_written :
-    {old new text : List ℕ} {at r n k : ℕ} → n < 18446744073709551616 → IsDigitCount 10 1 n k → text ≡ last_digits 10 k n → Writes old at new r text → Writes old at new r (decimal n)
-number_written {old} {new} {text} {at} {r} {n} {k} h f e w =
-    subst (Writes old at new r) (e ∙ fewest_digits 20 k n f.0 (few_digits n k h f.2 (leb k 20) refl) f.1 f.2) w
+pub number_written : {p q : Page} {text : List ℕ} {n k : ℕ} → n < 18446744073709551616 → IsDigitCount 10 1 n k → text ≡ last_digits 10 k n → Puts p q text → Puts p q (decimal n)
+number_written {n = n} {k = k} h f e w =
+    puts_as (e ∙ fewest_digits 20 k n f.0 (few_digits n k h f.2 (leb k 20) refl) f.1 f.2) w
 
 -- a number below 0 is its sign and its size
 pub negative_written :
-    (z : ℤ) {m : ℕ} {old next new : List ℕ} {at behind r : ℕ} → int_lt z (pos 0) ≡ true → m ≡ nat_abs z →
-    Writes old at next behind (45 ∷ []) → Writes next behind new r (decimal m) → Writes old at new r (signed_decimal z)
-negative_written (pos n) l e p q = let b : ⊥ = omega (arith, ltb-true n 0 l) in absurd b
-negative_written (negsuc n) {m} {old} {next} {new} {at} {behind} {r} l e p q =
-    then p (subst (λ (k : ℕ). Writes next behind new r (decimal k)) e q)
+    (z : ℤ) {m : ℕ} {p q s : Page} → int_lt z (pos 0) ≡ true → m ≡ nat_abs z → Puts p q (45 ∷ []) → Puts q s (decimal m) → Puts p s (signed_decimal z)
+negative_written (pos n) l e f g = let b : ⊥ = omega (arith, ltb-true n 0 l) in absurd b
+negative_written (negsuc n) l e f g = then f (puts_as (ap decimal e) g)
+
+-- a number from 0 on is its size
+pub positive_written : (z : ℤ) {m : ℕ} {p q : Page} → int_lt z (pos 0) ≡ false → m ≡ nat_abs z → Puts p q (decimal m) → Puts p q (signed_decimal z)
+positive_written (pos n) l e f = puts_as (ap decimal e) f
+positive_written (negsuc n) l e f = let b : ◌≡◌ {A = Bool} true false = l in absurd (cc)
 
 -- a signed number reaches its callee as a word, and is the same number there
 
-pub signed_put : {old new : List ℕ} {at r : ℕ} {z : ℤ} → SFits w64 z → Writes old at new r (signed_decimal (to_z w64 (of_z w64 z))) → Writes old at new r (signed_decimal z)
-signed_put {old} {new} {at} {r} {z} f w = subst (λ (x : ℤ). Writes old at new r (signed_decimal x)) (to_z-of_z w64 z f) w
+pub signed_put : {p q : Page} {z : ℤ} → SFits w64 z → Puts p q (signed_decimal (to_z w64 (of_z w64 z))) → Puts p q (signed_decimal z)
+signed_put {z = z} f w = puts_as (ap signed_decimal (to_z-of_z w64 z f)) w
 
-pub named_put : {old new : List ℕ} {at r : ℕ} (word : List ℕ) (z : ℤ) → SFits w64 z → Writes old at new r (named word (to_z w64 (of_z w64 z))) → Writes old at new r (named word z)
-named_put {old} {new} {at} {r} word z f w = subst (λ (x : ℤ). Writes old at new r (named word x)) (to_z-of_z w64 z f) w
+pub named_put : {p q : Page} (word : List ℕ) (z : ℤ) → SFits w64 z → Puts p q (named word (to_z w64 (of_z w64 z))) → Puts p q (named word z)
+named_put word z f w = puts_as (ap (λ (x : ℤ). named word x) (to_z-of_z w64 z f)) w

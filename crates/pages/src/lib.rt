@@ -1,62 +1,89 @@
-// Texts put together on a page: each function goes on behind what the page holds, and a page that is full stays full.
+// Texts put together on a lent page: each goes on behind what the page holds, and a page that is full stays full.
 #![tactic(auto)]
 
-ghost use Rattle.pages.specs.Page.{Writes};
+ghost use Rattle.std.specs.Prelude.{◌≡◌, ◌≤◌, length, take};
+ghost use Rattle.pages.specs.Page.{Puts};
 ghost use Rattle.pages.specs.Lines.{named, number_line, pair_line};
 ghost use Rattle.numbers.specs.Text.{decimal, signed_decimal};
 
-pub fn put_bytes(page: &mut [u8], at: usize, text: &[u8]) -> usize
-    ensures { Writes page.old at page.new result text.now }
-{
-    if at > page.len() {
-        return at;
+// `end` is the place behind the text, one past the page's end where it is full.
+#[derive(Drop)]
+pub struct Page<'a> {
+    pub bytes: &'a mut [u8],
+    pub end: usize,
+}
+
+impl<'a> Page<'a> {
+    pub fn new(bytes: &'a mut [u8]) -> Page<'a>
+        ensures same { result.bytes.ghost_name ≡ bytes.entry.ghost_name }
+        ensures bytes { result.bytes.now ≡ bytes.old }
+        ensures start { result.end ≡ 0 }
+    {
+        Page { bytes, end: 0 }
     }
-    if text.len() > page.len() - at {
-        return page.len() + 1;
+
+    pub fn put_bytes(&mut self, text: &[u8])
+        ensures { Puts self.old self.new text.now }
+    {
+        let at = self.end;
+        if at > self.bytes.len() {
+            return;
+        }
+        if text.len() > self.bytes.len() - at {
+            self.end = self.bytes.len() + 1;
+            return;
+        }
+        self.bytes[at..at + text.len()].copy_from_slice(text);
+        self.end = at + text.len();
     }
-    page[at..at + text.len()].copy_from_slice(text);
-    at + text.len()
-}
 
-pub fn put_number(page: &mut [u8], at: usize, n: u64) -> usize
-    ensures { Writes page.old at page.new result (decimal n) }
-{
-    let mut text = [0u8; 20];
-    let k = io::decimal(n, &mut text);
-    put_bytes(page, at, &text[..k])
-}
-
-pub fn put_signed(page: &mut [u8], at: usize, z: i64) -> usize
-    ensures { Writes page.old at page.new result (signed_decimal z) }
-{
-    if z < 0 {
-        let behind = put_bytes(page, at, b"-");
-        return put_number(page, behind, z.unsigned_abs());
+    pub fn put_number(&mut self, n: u64)
+        ensures { Puts self.old self.new (decimal n) }
+    {
+        let mut text = [0u8; 20];
+        let k = io::decimal(n, &mut text);
+        self.put_bytes(&text[..k]);
     }
-    put_number(page, at, z.unsigned_abs())
-}
 
-// ---- parts of lines
+    pub fn put_signed(&mut self, z: i64)
+        ensures { Puts self.old self.new (signed_decimal z) }
+    {
+        if z < 0 {
+            self.put_bytes(b"-");
+        }
+        self.put_number(z.unsigned_abs());
+    }
 
-pub fn put_named(page: &mut [u8], at: usize, word: &[u8], z: i64) -> usize
-    ensures { Writes page.old at page.new result (named word.now z) }
-{
-    let behind = put_bytes(page, at, word);
-    put_signed(page, behind, z)
-}
+    // The text that a page holds that is not full.
+    pub fn text(&self) -> &[u8]
+        requires { self.now.end ≤ length self.now.bytes.now }
+        ensures { result.now ≡ take self.now.end self.now.bytes.now }
+    {
+        &self.bytes[..self.end]
+    }
 
-pub fn put_line(page: &mut [u8], at: usize, word: &[u8], n: u64) -> usize
-    ensures { Writes page.old at page.new result (number_line word.now n) }
-{
-    let behind = put_bytes(page, at, word);
-    let end = put_number(page, behind, n);
-    put_bytes(page, end, b"\n")
-}
+    // ---- parts of lines
 
-pub fn put_pair(page: &mut [u8], at: usize, word: &[u8], m: u64, n: u64) -> usize
-    ensures { Writes page.old at page.new result (pair_line word.now m n) }
-{
-    let behind = put_bytes(page, at, word);
-    let first = put_number(page, behind, m);
-    put_line(page, first, b" ", n)
+    pub fn put_named(&mut self, word: &[u8], z: i64)
+        ensures { Puts self.old self.new (named word.now z) }
+    {
+        self.put_bytes(word);
+        self.put_signed(z);
+    }
+
+    pub fn put_line(&mut self, word: &[u8], n: u64)
+        ensures { Puts self.old self.new (number_line word.now n) }
+    {
+        self.put_bytes(word);
+        self.put_number(n);
+        self.put_bytes(b"\n");
+    }
+
+    pub fn put_pair(&mut self, word: &[u8], m: u64, n: u64)
+        ensures { Puts self.old self.new (pair_line word.now m n) }
+    {
+        self.put_bytes(word);
+        self.put_number(m);
+        self.put_line(b" ", n);
+    }
 }

@@ -1,5 +1,4 @@
 pub mod Touching
-pub mod Renewing
 pub mod Passing
 pub mod Matching
 pub mod WholeNext

@@ -18,13 +18,11 @@ fn touches(area: &[u64], n: usize, sentences: usize, base: usize, touched: &[u8]
     }
     let start = area::entry_at(area, n, sentences, base);
     let merged = area::merged_at(area, base);
-    let mut i: usize = 0;
-    while i < merged {
-        let a = (area::literal_in(area, start, i) / 2) as usize;
-        if touched[a] != 0 {
+    for i in 0..merged {
+        let atom = (area::literal_in(area, start, i) / 2) as usize;
+        if touched[atom] != 0 {
             return true;
         }
-        i += 1;
     }
     false
 }
@@ -34,12 +32,11 @@ fn refresh_one(area: &mut [u64], n: usize, sentences: usize, base: usize, touche
     requires { TouchReady area.old n sentences base touched.now }
     ensures { OneRefreshed area.old area.new n sentences base touched.now }
 {
-    if !touches(area, n, sentences, base, touched) {
-        return;
+    if touches(area, n, sentences, base, touched) {
+        let found = extremes::extremes_of(area, n, sentences, base);
+        area::set_pending(area, base);
+        area::set_bounds(area, base, found.least, found.greatest);
     }
-    let found = extremes::extremes_of(area, n, sentences, base);
-    area::set_pending(area, base);
-    area::set_bounds(area, base, found.least, found.greatest);
 }
 
 // All sentences, after the values of the touched atoms changed. `touched` has a word for each atom, not 0 where its value changed.
@@ -47,9 +44,7 @@ pub fn refresh(area: &mut [u64], n: usize, sentences: usize, touched: &[u8])
     requires { (lim : Limits) × Refreshable lim area.old n sentences touched.now }
     ensures { Refreshed area.old area.new n sentences touched.now }
 {
-    let mut s: usize = 0;
-    while s < sentences {
+    for s in 0..sentences {
         refresh_one(area, n, sentences, 4 * n + 8 * s, touched);
-        s += 1;
     }
 }

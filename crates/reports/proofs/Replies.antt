@@ -1,12 +1,12 @@
 -- The table's answers to the two reports, for a work area: the tests of the code are those of the table.
-use mathlib.Core.Path.{◌≡◌, refl, sym, ◌∙◌, ap}
-use mathlib.Core.Bool.{Bool, true, false, not, ◌&&◌}
+use mathlib.Core.Path.{◌≡◌, sym, ◌∙◌, ap}
+use mathlib.Core.Bool.{true}
+use mathlib.Core.Logic.{◌⊎◌, inl, inr}
 use mathlib.Core.List.{List}
 use Prim.Native.Nat.{ℕ, suc, ◌*◌, ◌-◌, ◌<◌, ◌≤◌}
 use native.Mathlib.Omega.{arith}
 use lib.ListN.{length}
 use lib.IntN.{ℤ}
-use lib.Dec.{leb}
 use borrow.Author.Tests.{le-leb, lt-leb, lt-ltb, le-ltb}
 use Rattle.types.specs.declared.Limits.{Limits}
 use Rattle.types.specs.Limits.{Fitting}
@@ -37,15 +37,9 @@ module _ (lim : Limits) (w : List ℕ) where
   unfolding reply
   refused_for k e = rw e
 
-  pub bounds_none : (k : ℕ) → k ≡ 0 → (reply (area_state lim w) (a_report (bounds k) 0)).answer ≡ refused 16 0
-  bounds_none k e = refused_for k (rw (lt-leb 1 k (omega arith)))
-
-  pub bounds_past : (k : ℕ) → S < k → (reply (area_state lim w) (a_report (bounds k) 0)).answer ≡ refused 16 0
-  bounds_past k h = refused_for k (past (leb 1 k) (leb k (length js)) (lt-leb k (length js) (omega (arith, judged_count w))))
-    where
-      past : (b c : Bool) → c ≡ false → not (b && c) ≡ true
-      past true c e = rw e
-      past false c e = refl
+  pub bounds_refused : (k s : ℕ) → s ≡ S → (k ≡ 0) ⊎ (¬ (k ≡ 0) × (s < k)) → (reply (area_state lim w) (a_report (bounds k) 0)).answer ≡ refused 16 0
+  bounds_refused k s e (inl z) = refused_for k (rw (lt-leb 1 k (omega arith)))
+  bounds_refused k s e (inr (d, h)) = refused_for k (rw (le-leb 1 k (omega arith), lt-leb k (length js) (omega (arith, judged_count w))))
 
   bounds_numbered : (k : ℕ) → 1 ≤ k → k ≤ S
       → (reply (area_state lim w) (a_report (bounds k) 0)).answer ≡ reported (bounds_of ((numbered no_sentence_judged k js).least (trail (rows_of w))) ((numbered no_sentence_judged k js).greatest (trail (rows_of w))))

@@ -1,18 +1,14 @@
--- The rows written so far stand at the front of the list, and the rest of it is as it was: three stores put one row more behind them.
+-- The rows written so far stand at the front of the list, and the rest of it is as it was: three numbers put one row more behind them.
 use mathlib.Core.Path.{◌≡◌, refl, sym, ◌∙◌, ap}
 use mathlib.Core.List.{List, [], ◌∷◌, ◌++◌}
-use Prim.Native.Nat.{ℕ, suc, ◌+◌, ◌*◌, ◌<◌, ◌≤◌}
+use Prim.Native.Nat.{ℕ, suc, ◌+◌, ◌*◌, ◌≤◌}
 use native.Mathlib.Omega.{arith}
 use lib.IntN.{ℤ, pos}
-use lib.ListN.{length, take, drop, set, length-append, length-drop}
-use lib.Seq.{sets, sets-eq, take_at, drop-append-add, drop-drop}
-use mir.Syntax.{w64}
-use mir.Val.{SFits, to_z, of_z}
-use mir.ValLaws.{to_z-of_z}
+use lib.ListN.{length, take, drop, length-append, length-drop}
+use lib.Seq.{take_at, drop-append-add, drop-drop}
 use Rattle.book.specs.Rows.{Row, flat}
 use Rattle.area.specs.Layout.{row_at, rows_from}
 use Rattle.trail_check.proofs.Rows.{rows_length}
-use Rattle.reports.proofs.Signs.{natural}
 
 pub flat_length : (rs : List Row) → length (flat rs) ≡ 3 * length rs
 unfolding flat
@@ -52,23 +48,13 @@ module _ (w : List ℕ) (n k : ℕ) (old new : List ℤ) (h : 3 * k + 3 ≤ leng
   numbers = (row_at w n k).literal ∷ pos (row_at w n k).level ∷ pos (row_at w n k).reason ∷ []
 
   pub row_written : {l : ℤ} {v r : ℕ} → l ≡ (row_at w n k).literal → v ≡ (row_at w n k).level → r ≡ (row_at w n k).reason
-      → Written w n (k + 1) old (sets new (3 * k) (l ∷ pos v ∷ pos r ∷ []))
+      → Written w n (k + 1) old (take (3 * k) new ++ (l ∷ pos v ∷ pos r ∷ []) ++ drop (3 * k + 3) new)
   unfolding rows_from flat
   row_written same level reason =
       let more : k + 1 ≡ suc k = omega arith in
       let size : 3 * k + 3 ≡ 3 * suc k = omega arith in
-      let room : 3 * k + length numbers ≤ length new = omega (arith, written_length w n k old new (omega arith) e) in
       rw (same, level, reason)
-      (sets-eq numbers new (3 * k) room
-      ∙ ap {A = List ℤ} (λ xs. xs ++ numbers ++ drop (3 * k + 3) new) front_kept
+      (ap {A = List ℤ} (λ xs. xs ++ numbers ++ drop (3 * k + 3) new) front_kept
       ∙ ap {A = List ℤ} (λ xs. front ++ numbers ++ xs) rest_kept
       ∙ ap {A = ℕ} (λ m. front ++ numbers ++ drop m old) size
       ∙ ap {A = ℕ} (λ m. flat (rows_from w n m) ++ drop (3 * m) old) (sym more))
-
--- the three stores of the code
-pub row_stores : (list : List ℤ) (at : ℕ) (l : ℤ) → SFits w64 l → (level reason : ℕ) → level < 65536 → reason < 65536
-    → set (set (set list at (to_z w64 (of_z w64 l))) (at + 1) (to_z w64 level)) (at + 2) (to_z w64 reason) ≡ sets list at (l ∷ pos level ∷ pos reason ∷ [])
-row_stores list at l f level reason v r =
-    let second : at + 1 ≡ suc at = omega arith in
-    let third : at + 2 ≡ suc (suc at) = omega arith in
-    rw (to_z-of_z w64 l f, natural level (omega arith), natural reason (omega arith), second, third)

@@ -25,13 +25,9 @@ number_fits x h =
 number_difference : (x : ℕ) → x < top → to_z w64 x -ℤ pos half ≡ sub_ℕ x half
 number_difference x h = ap (λ (z : ℤ). z -ℤ pos half) (natural x h)
 
-pub number_safe : (x : ℕ) → x < top → SFits w64 (to_z w64 x -ℤ pos half)
+number_safe : (x : ℕ) → x < top → SFits w64 (to_z w64 x -ℤ pos half)
 number_safe x h = rw (number_difference x h) (number_fits x h)
 
 pub number_is : (x : ℕ) → x < top → to_z w64 (of_z w64 (to_z w64 x -ℤ pos half)) ≡ unbias x
 unfolding unbias
 number_is x h = to_z-of_z w64 (to_z w64 x -ℤ pos half) (number_safe x h) ∙ number_difference x h
-
-pub unbias_fits : (x : ℕ) → x < top → SFits w64 (unbias x)
-unfolding unbias
-unbias_fits x h = number_fits x h

@@ -17,7 +17,7 @@ use Rattle.give.specs.Inner.Refused.{refusal_code}
 use Rattle.give.proofs.Refused.{none_applies, replied}
 use Rattle.search.specs.declared.Searched.{Searched}
 use Rattle.candidates.specs.Inner.Candidates.{AllKnown}
-use Rattle.search.specs.Search.{searched_returned}
+use Rattle.search.specs.Search.{end_returned}
 use Rattle.search.specs.Inner.Turn.{Ends}
 
 module _ (lim : Limits) (w : List ℕ) (ls : List ℤ) where
@@ -26,14 +26,7 @@ module _ (lim : Limits) (w : List ℕ) (ls : List ℤ) where
 
   -- ---- the code of the refusal
 
-  pub strange_code : ¬ (AllKnown (atoms_of w) ls) → 10 ≡ refusal_code lim w (search ls)
-  strange_code n = go (any (no_atom q) ls) refl
-    where
-      go : (b : Bool) → any (no_atom q) ls ≡ b → ◌≡◌ {A = ℕ} 10 (cond b 10 0)
-      go true e = refl
-      go false e = absurd (n e)
-
-  pub known_code : AllKnown (atoms_of w) ls → 0 ≡ refusal_code lim w (search ls)
+  known_code : AllKnown (atoms_of w) ls → 0 ≡ refusal_code lim w (search ls)
   known_code k = ap {A = Bool} (λ b. cond b 10 0) (sym k)
 
   pub all_known : refusal_code lim w (search ls) ≡ 0 → AllKnown (atoms_of w) ls
@@ -42,10 +35,10 @@ module _ (lim : Limits) (w : List ℕ) (ls : List ℤ) where
   -- ---- not refused
 
   pub acts_searched : (c : Counters) → Whole lim w c → AllKnown (atoms_of w) ls → (w' : List ℕ) (r : Searched) → Ends lim w w' ls r
-      → Acts lim w w' c (counted r.counters) (search ls) (searched_returned r)
+      → Acts lim w w' c (counted r.counters) (search ls) (end_returned r)
   acts_searched c h k w' r e =
       let o = (replied lim w (search ls)).passes (sym (known_code k)) in
-      acts_moved lim w c (search ls) (searched_returned r) w' (counted r.counters) h
+      acts_moved lim w c (search ls) (end_returned r) w' (counted r.counters) h
       (subst (λ (x : Outcome). T (not (is_refusal x.answer || false))) (sym o) tt)
       (e.answer ∙ ap {A = Outcome} (λ x. returned_by x.answer) (sym o))
       (subst (λ (x : Outcome). Moved lim w w' (counted r.counters) x) (sym o) e.moved)

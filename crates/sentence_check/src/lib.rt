@@ -3,24 +3,14 @@
 
 ghost use Rattle.std.specs.Prelude.{◌≡◌, ◌≤◌};
 ghost use Rattle.types.specs.Limits.{widest};
-ghost use Rattle.columns.specs.Indexed.{unknown_shape, column_code};
+ghost use Rattle.columns.specs.Answers.{fault_in};
+ghost use Rattle.columns.specs.Indexed.{column_code};
 
+use columns::Fault;
+use kinds::Kind;
 use types::Limits;
 
-fn unknown(each: u64, kind: u64, side: u64, entries: u64) -> bool
-    ensures { result ≡ unknown_shape each kind side entries }
-{
-    if kind > 4 {
-        return true;
-    }
-    if side > 1 {
-        return true;
-    }
-    entries > each
-}
-
-// 3 to 8, or 0.
-pub fn sentence_refusal(
+pub fn check_sentence(
     lim: Limits,
     n: u64,
     head: u64,
@@ -29,29 +19,30 @@ pub fn sentence_refusal(
     bound: i64,
     weights: &[i64],
     literals: &[i64],
-) -> u64
+) -> Result<(), Fault>
     requires { n ≤ widest.atoms }
-    ensures { result ≡ column_code lim n head kind side bound weights.now literals.now }
+    ensures { fault_in result ≡ column_code lim n head kind side bound weights.now literals.now }
 {
-    if unknown(lim.each, kind, side, literals.len() as u64) {
-        return 3;
+    let Ok(known) = Kind::try_from(kind) else {
+        return Err(Fault::Unknown);
+    };
+    if side > 1 || literals.len() as u64 > lim.each {
+        return Err(Fault::Unknown);
     }
     if literal_check::strange(n, head, literals) {
-        return 4;
+        return Err(Fault::Strange);
     }
-    if weight_check::out_of_range(kind, bound, weights) {
-        return 5;
+    if weight_check::out_of_range(known, bound, weights) {
+        return Err(Fault::OutOfRange);
     }
     if literal_check::own_head(head, literals) {
-        return 6;
+        return Err(Fault::OwnHead);
     }
-    if literal_check::mixed(kind, literals) {
-        return 7;
+    if literal_check::mixed(known, literals) {
+        return Err(Fault::BothSigns);
     }
-    if kind == 1 {
-        if weight_check::too_great(weights) {
-            return 8;
-        }
+    if known == Kind::Product && weight_check::too_great(weights) {
+        return Err(Fault::TooGreat);
     }
-    0
+    Ok(())
 }

@@ -2,8 +2,10 @@
 #![tactic(auto)]
 
 ghost use Rattle.std.specs.Prelude.{◌≤◌, length};
-ghost use Rattle.columns.specs.Columns.{seven_columns};
+ghost use Rattle.columns.specs.Columns.{held};
 ghost use Rattle.store.specs.Inner.Stored.{Cleared, Admitted, AllStored};
+
+use columns::Columns;
 
 // An empty trail at level 0.
 fn clear(area: &mut [u64], to: usize, first: u64)
@@ -14,40 +16,28 @@ fn clear(area: &mut [u64], to: usize, first: u64)
     blank::blank_words(area, 1, to);
 }
 
-pub fn store_all(
-    area: &mut [u64],
-    n: usize,
-    heads: &[u64],
-    kinds: &[u64],
-    sides: &[u64],
-    bounds: &[i64],
-    counts: &[u64],
-    weights: &[i64],
-    literals: &[i64],
-)
-    requires { Admitted area.old n (seven_columns heads.now kinds.now sides.now bounds.now counts.now weights.now literals.now) }
-    ensures { AllStored area.old area.new n (seven_columns heads.now kinds.now sides.now bounds.now counts.now weights.now literals.now) }
+pub fn store_all(area: &mut [u64], n: usize, columns: Columns<'_>)
+    requires { Admitted area.old n (held columns) }
+    ensures { AllStored area.old area.new n (held columns.entry) }
 {
-    let all = heads.len();
+    let all = columns.heads.len();
     clear(area, 4 * n, n as u64 + 65536 * all as u64);
-    let mut s = 0;
     let mut from = 0;
-    while s < all {
-        let to = from + counts[s] as usize;
+    for s in 0..all {
+        let to = from + columns.counts[s] as usize;
         stored_sentence::store_one(
             area,
             n,
             all,
             s,
             from,
-            heads[s],
-            kinds[s],
-            sides[s],
-            bounds[s],
-            &weights[from..to],
-            &literals[from..to],
+            columns.heads[s],
+            columns.kinds[s],
+            columns.sides[s],
+            columns.bounds[s],
+            &columns.weights[from..to],
+            &columns.literals[from..to],
         );
         from = to;
-        s += 1;
     }
 }

@@ -1,4 +1,3 @@
 pub mod Parts
 pub mod Frames
-pub mod Puts
 pub mod Rules

@@ -1,14 +1,16 @@
 -- A part of the area, lent and taken back: its words are the part's and all others are as before. And a slice of words that did not change
 -- is the same slice.
 use mathlib.Core.Path.{◌≡◌, sym, ap, ◌∙◌}
-use mathlib.Core.List.{List, ◌++◌}
+use mathlib.Core.List.{List}
 use Prim.Native.Nat.{ℕ, ◌+◌, ◌-◌, ◌*◌, ◌<◌, ◌≤◌}
 use native.Mathlib.Omega.{arith}
 use lib.IntN.{ℤ}
-use lib.ListN.{length, take, drop, get_or-append}
-use lib.Seq.{slice, length-slice, length-take-le, ext_get_or, get_or-append-add, get_or-take, get_or-drop}
-use borrow.Rule.Slice.PartMut.{put_mid, post_of, same_len_mid, mid_len}
+use lib.ListN.{length, take}
+use lib.Seq.{slice, length-slice, length-take-le, ext_get_or, get_or-take, get_or-drop}
+use borrow.Rule.Slice.PartMut.{put_mid}
+use Rattle.meaning.specs.Meaning.{Kind}
 use Rattle.area.specs.Layout.{word, entries_of}
+use Rattle.blank.proofs.Parts.{put_size, put_below, put_within, put_above}
 use Rattle.merge.specs.Inner.Into.{MergedInto}
 use Rattle.gather.specs.declared.Merged.{Merged}
 use Rattle.stored_sentence.specs.Inner.Sentences.{MergedAt}
@@ -24,51 +26,25 @@ pub slice_kept : (w w' : List ℕ) (f t : ℕ) → length w' ≡ length w → t 
 slice_kept w w' f t e l h = slice_is w' f t (slice f t w) (omega arith) (length-slice f t w l)
     (λ i m. h (f + i) (omega arith) m ∙ sym (get_or-drop f (take t w) i 0 ∙ get_or-take t w (f + i) 0 m))
 
--- ---- a list with ys in the place of the words a to e
+-- ---- a part with ys in its place
 
 module _ (xs ys : List ℕ) (a e : ℕ) (h : a ≤ e) (l : e ≤ length xs) (k : length ys ≡ e - a) where
   abbrev put : List ℕ
   put = put_mid a (e - a) xs ys
 
-  put_size : length put ≡ length xs
-  put_size = same_len_mid a (e - a) xs ys (k ∙ sym (mid_len a e xs l))
-
-  front : length (take a xs) ≡ a
-  front = length-take-le a xs (omega arith)
-
-  put_below : (i : ℕ) → i < a → word put i ≡ word xs i
-  put_below i m = get_or-append (take a xs) (ys ++ post_of a (e - a) xs) 0 i (omega (arith, front)) ∙ get_or-take a xs i 0 m
-
-  skip : (i : ℕ) → a ≤ i → word put i ≡ word (ys ++ post_of a (e - a) xs) (i - a)
-  skip i m =
-      let q : i ≡ length (take a xs) + (i - a) = omega (arith, front) in
-      ap {A = ℕ} (word put) q ∙ get_or-append-add (take a xs) (ys ++ post_of a (e - a) xs) (i - a) 0
-
-  put_within : (i : ℕ) → i < e - a → word put (a + i) ≡ word ys i
-  put_within i m =
-      let q : a + i - a ≡ i = omega arith in
-      skip (a + i) (omega arith) ∙ ap {A = ℕ} (word (ys ++ post_of a (e - a) xs)) q ∙ get_or-append ys (post_of a (e - a) xs) 0 i (omega arith)
-
-  put_above : (i : ℕ) → e ≤ i → word put i ≡ word xs i
-  put_above i m =
-      let p : i - a ≡ length ys + (i - e) = omega arith in
-      let q : a + (e - a + (i - e)) ≡ i = omega arith in
-      skip i (omega arith) ∙ ap {A = ℕ} (word (ys ++ post_of a (e - a) xs)) p ∙ get_or-append-add ys (post_of a (e - a) xs) (i - e) 0
-      ∙ get_or-drop (e - a) (drop a xs) (i - e) 0 ∙ get_or-drop a xs (e - a + (i - e)) 0 ∙ ap {A = ℕ} (word xs) q
-
   -- what the merge left in the part
-  pub merged_put : (kind : ℕ) (ws ls : List ℤ) (r : Merged) → e ≡ a + 2 * length ws → MergedInto ys kind ws ls r → MergedAt xs put a kind ws ls r
+  pub merged_put : (kind : Kind) (ws ls : List ℤ) (r : Merged) → e ≡ a + 2 * length ws → MergedInto ys kind ws ls r → MergedAt xs put a kind ws ls r
   merged_put kind ws ls r q m =
       let c = m.count in
       record {
-        size = put_size;
+        size = put_size xs ys a e h l k;
         count = m.count;
-        entries = ap {A = List ℕ} entries_of (slice_is put a (a + 2 * r.count) (take (2 * r.count) ys) (omega (arith, put_size))
+        entries = ap {A = List ℕ} entries_of (slice_is put a (a + 2 * r.count) (take (2 * r.count) ys) (omega (arith, put_size xs ys a e h l k))
             (length-take-le (2 * r.count) ys (omega arith) ∙ omega arith)
-            (λ i t. put_within i (omega arith) ∙ sym (get_or-take (2 * r.count) ys i 0 (omega arith)))) ∙ m.entries;
-        rest = λ i s t. put_within i (omega arith) ∙ m.rest i s t;
+            (λ i t. put_within xs ys a e h l k i (omega arith) ∙ sym (get_or-take (2 * r.count) ys i 0 (omega arith)))) ∙ m.entries;
+        rest = λ i s t. put_within xs ys a e h l k i (omega arith) ∙ m.rest i s t;
         constant = m.constant;
         no_constant = m.no_constant;
-        below = put_below;
-        above = λ i t. put_above i (omega arith);
+        below = put_below xs ys a e h l k;
+        above = λ i t. put_above xs ys a e h l k i (omega arith);
       }

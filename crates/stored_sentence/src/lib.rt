@@ -1,29 +1,20 @@
 // One written sentence stored: its merged entries, and its record. It is marked as pending, and its bounds are left open.
 #![tactic(auto)]
 
-ghost use Rattle.std.specs.Prelude.{◌+◌, ◌≤◌, length};
+ghost use Rattle.kinds.specs.Kinds.{meant};
 ghost use Rattle.columns.specs.Columns.{written_as};
-ghost use Rattle.stored_sentence.specs.Inner.Sentences.{MergeAsked, MergedAt, FourPut, Storable, Stored};
+ghost use Rattle.stored_sentence.specs.Inner.Sentences.{MergeAsked, MergedAt, Storable, Stored};
 
 use gather::Merged;
+use kinds::Kind;
 
 // The merge of a written set, in the words of the area from `at` on.
-fn merge_at(area: &mut [u64], at: usize, kind: u64, weights: &[i64], literals: &[i64]) -> Merged
-    requires { MergeAsked area.old at kind weights.now literals.now }
-    ensures { MergedAt area.old area.new at kind weights.now literals.now result }
+fn merge_at(area: &mut [u64], at: usize, kind: Kind, weights: &[i64], literals: &[i64]) -> Merged
+    requires { MergeAsked area.old at (meant kind) weights.now literals.now }
+    ensures { MergedAt area.old area.new at (meant kind) weights.now literals.now result }
 {
     let end = at + 2 * weights.len();
     merge::merge_into(&mut area[at..end], kind, weights, literals)
-}
-
-fn put_four(area: &mut [u64], at: usize, a: u64, b: u64, c: u64, d: u64)
-    requires { at + 4 ≤ length area.old }
-    ensures { FourPut area.old area.new at a b c d }
-{
-    area[at] = a;
-    area[at + 1] = b;
-    area[at + 2] = c;
-    area[at + 3] = d;
 }
 
 // Sentence s, from 0, of `all`: its record and its merged entries, behind the `before` entries of the sentences before it.
@@ -45,17 +36,16 @@ pub fn store_one(
 {
     let own = 4 * n + 8 * s;
     let at = 4 * n + 8 * all + 2 * before;
-    let set = merge_at(area, at, kind, weights, literals);
-    let merged = set.count as u64;
-    let constant = set.constant;
+    let set = merge_at(area, at, Kind::numbered(kind), weights, literals);
     let b = entry_words::number_word(bound);
-    put_four(area, own, head, kind + 8 * side + 16, b, constant);
-    put_four(
-        area,
-        own + 4,
+    area[own..own + 8].copy_from_slice(&[
+        head,
+        kind + 8 * side + 16,
+        b,
+        set.constant,
         0,
         0,
         before as u64,
-        weights.len() as u64 + 65536 * merged,
-    );
+        weights.len() as u64 + 65536 * set.count as u64,
+    ]);
 }

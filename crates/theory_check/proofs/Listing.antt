@@ -90,7 +90,8 @@ by_once (suc k) f h = (
 
 -- ---- the product of all weights
 
-pub multiplied_listed : (k : ℕ) (f : ℕ → Entry) (g : ℕ → ℕ) → ((i : ℕ) → i < k → (f i).weight ≡ pos (g i)) → multiplied (weights_of (listed k f)) ≡ pos (product_below k g)
+pub multiplied_listed : (k : ℕ) (f : ℕ → Entry) (g : ℕ → ℕ) → ((i : ℕ) → i < k → (f i).weight ≡ pos (g i))
+    → multiplied (weights_of (listed k f)) ≡ pos (product_below k g)
 unfolding product_below
 multiplied_listed zero f g h = refl
 multiplied_listed (suc k) f g h =

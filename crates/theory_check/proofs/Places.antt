@@ -18,6 +18,9 @@ pub one_more : (w : List ℕ) (n s : ℕ) → entries_before w n (s + 1) ≡ ent
 unfolding entries_before
 one_more w n s = ap {A = ℕ} (entries_before w n) (add-one s)
 
+-- the entries before a sentence, one sentence after the other
+pub ruleset counted = (none_before, one_more)
+
 -- sentence s in the places of all
 pub record Placed (lim : Limits) (w : List ℕ) (n S s : ℕ) : Type 0 where
   pub own : record_at n s + 8 ≤ length w

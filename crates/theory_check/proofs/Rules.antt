@@ -15,7 +15,8 @@ rules_length w n S s zero = refl
 rules_length w n S s (suc k) = ap {A = ℕ} suc (rules_length w n S (suc s) k)
 
 -- what each record gives, each rule has
-pub rules_each : (P : Rule → Type 0) (w : List ℕ) (n S s k : ℕ) → s + k ≤ S → ((i : ℕ) → i < S → P (rule_at w n S (record_at n i))) → Each P (rules_from w n S s k)
+pub rules_each : (P : Rule → Type 0) (w : List ℕ) (n S s k : ℕ) → s + k ≤ S
+    → ((i : ℕ) → i < S → P (rule_at w n S (record_at n i))) → Each P (rules_from w n S s k)
 rules_each P w n S s k l h = each_rule P w n S s k (λ i t. h i (omega arith))
 
 rule_number : (w : List ℕ) (n S s k i : ℕ) (d : Rule) → i < k → get_or (rules_from w n S s k) i d ≡ rule_at w n S (record_at n (s + i))

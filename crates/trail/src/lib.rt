@@ -24,20 +24,17 @@ pub fn cut(area: &mut [u64], n: usize, len: usize, k: u64, touched: &mut [u8]) -
     requires { Stands area.old n len × (length touched.old ≡ 4097) }
     ensures { Cut area.old area.new n len (level_of area.old) k result touched.new }
 {
-    let mut left = len;
-    while left > 0 {
-        let last = left - 1;
+    for last in (0..len).rev() {
         if area::row_level(area, n, last) <= k {
-            return left;
+            return last + 1;
         }
         let a = (area::literal_at(area, n, last) / 2) as usize;
         area[n - 1 + a] = 0;
         area[2 * n + last] = 0;
         area[3 * n + last] = 0;
         touched[a] = 1;
-        left = last;
     }
-    left
+    0
 }
 
 // Word 0 gets a length and a level.

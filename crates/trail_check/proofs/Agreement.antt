@@ -29,23 +29,31 @@ module _ (w : List ℕ) (n len : ℕ) (places : (i : ℕ) → i < len → RowOk 
       go (here i l e v) = ap {A = ℕ} (value_at w n) (sym e) ∙ (places i l).value ∙ sym v
       go (nowhere off v) = ⊎_elim
           (λ (p : value_at w n a ≤ 0). omega arith)
-          (λ (p : 0 < value_at w n a). let q = (values a low high).same p in absurd (off ((value_at w n a - 1) / 2) ((values a low high).within p) (omega arith)))
+          (λ (p : 0 < value_at w n a). let q = (values a low high).same p in
+          absurd (off ((value_at w n a - 1) / 2) ((values a low high).within p) (omega arith)))
           (cases 0 (value_at w n a))
 
-pub trail_by_places : (w : List ℕ) (n len level : ℕ) → ((i : ℕ) → 1 ≤ i → i < n → word w i ≡ 0)
-    → ((a : ℕ) → 1 ≤ a → a ≤ n → ValueOk w n len a) → ((i : ℕ) → i < len → RowOk w n i) → Rising level (rows_from w n len)
-    → ((i : ℕ) → 2 * n + len ≤ i → i < 3 * n → word w i ≡ 0) → ((i : ℕ) → 3 * n + len ≤ i → i < 4 * n → word w i ≡ 0) → TrailOk w n len level
-trail_by_places w n len level front values places rising literals marks = record {
-  atoms = once_by_places w n len places;
-  values = values_by_places w n len places values;
-  rising = rising;
-  front = front;
-  literals = λ i l m. literals (2 * n + i) (omega arith) (omega arith);
-  marks = λ i l m. marks (3 * n + i) (omega arith) (omega arith);
+-- the trail's words, as they are tested
+pub record Tested (w : List ℕ) (n len level : ℕ) : Type 0 where
+  pub front : (i : ℕ) → 1 ≤ i → i < n → word w i ≡ 0
+  pub values : (a : ℕ) → 1 ≤ a → a ≤ n → ValueOk w n len a
+  pub places : (i : ℕ) → i < len → RowOk w n i
+  pub rising : Rising level (rows_from w n len)
+  pub literals : (i : ℕ) → 2 * n + len ≤ i → i < 3 * n → word w i ≡ 0
+  pub marks : (i : ℕ) → 3 * n + len ≤ i → i < 4 * n → word w i ≡ 0
+
+pub by_tests : (w : List ℕ) (n len level : ℕ) → Tested w n len level → TrailOk w n len level
+by_tests w n len level t = record {
+  atoms = once_by_places w n len t.places;
+  values = values_by_places w n len t.places t.values;
+  rising = t.rising;
+  front = t.front;
+  literals = λ i l m. t.literals (2 * n + i) (omega arith) (omega arith);
+  marks = λ i l m. t.marks (3 * n + i) (omega arith) (omega arith);
 }
 
 module _ (w : List ℕ) (n len level : ℕ) (ok : TrailOk w n len level) where
-  pub place_of_ok : (i : ℕ) → i < len → RowOk w n i
+  place_of_ok : (i : ℕ) → i < len → RowOk w n i
   place_of_ok i l = record { low = low; high = high; value = ok.values (literal_at w n i / 2) low high ∙ go (found w n (literal_at w n i / 2) low len) }
     where
       low : 1 ≤ literal_at w n i / 2
@@ -58,7 +66,7 @@ module _ (w : List ℕ) (n len level : ℕ) (ok : TrailOk w n len level) where
       go (here j m e v) = v ∙ ap {A = ℕ} (λ k. 1 + 2 * k + literal_at w n k % 2) (place_unique w n len j i m l ok.atoms e)
       go (nowhere off v) = absurd (off i l refl)
 
-  pub value_of_ok : (a : ℕ) → 1 ≤ a → a ≤ n → ValueOk w n len a
+  value_of_ok : (a : ℕ) → 1 ≤ a → a ≤ n → ValueOk w n len a
   value_of_ok a low high = go (found w n a low len)
     where
       go : Found w n len a → ValueOk w n len a
@@ -67,8 +75,20 @@ module _ (w : List ℕ) (n len level : ℕ) (ok : TrailOk w n len level) where
           record { within = λ _. omega arith; same = λ _. ap {A = ℕ} (literal_at w n) q ∙ omega arith }
       go (nowhere off v) = let x : value_at w n a ≡ 0 = ok.values a low high ∙ v in omega arith
 
-  pub literals_of_ok : (j : ℕ) → 2 * n + len ≤ j → j < 3 * n → word w j ≡ 0
+  literals_of_ok : (j : ℕ) → 2 * n + len ≤ j → j < 3 * n → word w j ≡ 0
   literals_of_ok j l m = blank_from w (2 * n) len n ok.literals j l (omega arith)
 
-  pub marks_of_ok : (j : ℕ) → 3 * n + len ≤ j → j < 4 * n → word w j ≡ 0
+  marks_of_ok : (j : ℕ) → 3 * n + len ≤ j → j < 4 * n → word w j ≡ 0
   marks_of_ok j l m = blank_from w (3 * n) len n ok.marks j l (omega arith)
+
+pub to_tests : (w : List ℕ) (n len level : ℕ) → TrailOk w n len level → Tested w n len level
+to_tests w n len level ok = record {
+  front = ok.front;
+  values = value_of_ok w n len level ok;
+  places = place_of_ok w n len level ok;
+  rising = ok.rising;
+  literals = literals_of_ok w n len level ok;
+  marks = marks_of_ok w n len level ok;
+}
+
+pub ruleset tested = (by_tests, to_tests)

@@ -3,46 +3,38 @@
 
 ghost use Rattle.std.specs.Prelude.{◌≤◌, ◌/◌, length};
 ghost use Rattle.calls.specs.Calls.{listed_returned};
-ghost use Rattle.pages.specs.Page.{Writes};
+ghost use Rattle.pages.specs.Page.{Puts};
 ghost use Rattle.answer_lines.specs.Lines.{row_line, row_lines, trail_lines};
 
-use calls::Listed;
+use calls::Refusal;
+use pages::Page;
 
-fn put_row(page: &mut [u8], at: usize, literal: i64, level: i64, reason: i64) -> usize
-    ensures { Writes page.old at page.new result (row_line literal level reason) }
+fn put_row(page: &mut Page<'_>, literal: i64, level: i64, reason: i64)
+    ensures { Puts page.old page.new (row_line literal level reason) }
 {
-    let first = pages::put_named(page, at, b"t ", literal);
-    let second = pages::put_named(page, first, b" ", level);
-    let third = pages::put_named(page, second, b" ", reason);
-    pages::put_bytes(page, third, b"\n")
+    page.put_named(b"t ", literal);
+    page.put_named(b" ", level);
+    page.put_named(b" ", reason);
+    page.put_bytes(b"\n");
 }
 
-fn put_rows(page: &mut [u8], at: usize, list: &[i64], rows: usize) -> usize
+fn put_rows(page: &mut Page<'_>, list: &[i64], rows: usize)
     requires { rows ≤ length list.now / 3 }
-    ensures { Writes page.old at page.new result (row_lines list.now rows) }
+    ensures { Puts page.old page.new (row_lines list.now rows) }
 {
-    let mut place = at;
-    let mut row: usize = 0;
-    while row < rows {
-        place = put_row(
-            page,
-            place,
-            list[3 * row],
-            list[3 * row + 1],
-            list[3 * row + 2],
-        );
-        row += 1;
+    for row in 0..rows {
+        put_row(page, list[3 * row], list[3 * row + 1], list[3 * row + 2]);
     }
-    place
 }
 
-pub fn put_trail(page: &mut [u8], at: usize, answer: Listed, list: &[i64]) -> usize
-    ensures { Writes page.old at page.new result (trail_lines (listed_returned answer) list.now) }
+pub fn put_trail(page: &mut Page<'_>, answer: Result<u64, Refusal>, list: &[i64])
+    ensures { Puts page.old page.new (trail_lines (listed_returned answer) list.now) }
 {
-    if answer.code != 0 {
-        return pages::put_pair(page, at, b"refused ", answer.code, answer.value);
+    match answer {
+        Ok(value) => {
+            put_rows(page, list, list_lines::listed_of(list, value) / 3);
+            page.put_line(b"trail ", value / 3);
+        }
+        Err(refusal) => answer_lines::put_refused(page, refusal),
     }
-    let rows = list_lines::listed_of(list, answer.value) / 3;
-    let end = put_rows(page, at, list, rows);
-    pages::put_line(page, end, b"trail ", answer.value / 3)
 }

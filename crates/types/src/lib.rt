@@ -3,28 +3,44 @@
 
 ghost use Rattle.std.specs.Prelude.{◌≡◌};
 ghost use Rattle.types.specs.Limits.{document};
+ghost use Rattle.types.specs.Counters.{start};
+
+// The word of 0: a signed number z is the word HALF + z.
+pub const HALF: u64 = 4_611_686_018_427_387_904;
 
 // An atom, 1 to N; as a parameter of load, N itself.
-#[derive(Clone, Copy)]
+#[derive(Clone, Copy, Debug, PartialEq, Eq)]
 pub struct Atom(pub u64);
 
 // A sentence, counted from 1; 0 where there is none.
-#[derive(Clone, Copy)]
+#[derive(Clone, Copy, Debug, PartialEq, Eq)]
 pub struct Sentence(pub u64);
 
 // A level of the trail.
-#[derive(Clone, Copy)]
+#[derive(Clone, Copy, Debug, PartialEq, Eq)]
 pub struct Level(pub u64);
 
 // The trail's counters: its length, and the current level.
-#[derive(Clone, Copy)]
+#[derive(Clone, Copy, Debug, PartialEq, Eq)]
 pub struct Counters {
     pub length: u64,
     pub level: Level,
 }
 
+impl Counters {
+    // After a load: no row, level 0.
+    pub fn start() -> Counters
+        ensures { result ≡ start }
+    {
+        Counters {
+            length: 0,
+            level: Level(0),
+        }
+    }
+}
+
 // The limits of a caller: atoms, sentences, written entries, written entries in one sentence, and the highest level.
-#[derive(Clone, Copy)]
+#[derive(Clone, Copy, Debug, PartialEq, Eq)]
 pub struct Limits {
     pub atoms: u64,
     pub sentences: u64,

@@ -1,1 +1,1 @@
-mod Casts
+mod Products

@@ -3,93 +3,47 @@
 #![tactic(auto)]
 
 ghost use Rattle.std.specs.Prelude.{◌≡◌, false, not, ◌||◌};
-ghost use Rattle.kinds.specs.Kinds.{least_weight, greatest_weight, between};
-ghost use Rattle.area.specs.Layout.{kind_of};
+ghost use Rattle.meaning.specs.Meaning.{product};
+ghost use Rattle.kinds.specs.Kinds.{meant, between};
 ghost use Rattle.columns.specs.Refusals.{bound_fits};
 ghost use Rattle.columns.specs.Indexed.{unfit_weights, product_above};
 
-use kinds::{Count, Max, Min, Product, Sum};
+use kinds::Kind;
 use types::Limits;
 
-const LEAST_BOUND: i64 = -Limits::BOUND;
-
 const GREATEST_PRODUCT: u64 = Limits::BOUND as u64;
-
-fn least_weight(kind: u64) -> i64
-    ensures { result ≡ least_weight (kind_of kind) }
-{
-    match kind {
-        0 => Sum::least(),
-        1 => Product::least(),
-        2 => Count::least(),
-        3 => Max::least(),
-        _ => Min::least(),
-    }
-}
-
-fn greatest_weight(kind: u64) -> i64
-    ensures { result ≡ greatest_weight (kind_of kind) }
-{
-    match kind {
-        0 => Sum::greatest(),
-        1 => Product::greatest(),
-        2 => Count::greatest(),
-        3 => Max::greatest(),
-        _ => Min::greatest(),
-    }
-}
 
 fn within(least: i64, greatest: i64, w: i64) -> bool
     ensures { result ≡ between least greatest w }
 {
-    if least <= w { w <= greatest } else { false }
+    least <= w && w <= greatest
 }
 
-fn unfit(kind: u64, weights: &[i64]) -> bool
-    ensures { result ≡ unfit_weights kind weights.now }
+fn unfit(kind: Kind, weights: &[i64]) -> bool
+    ensures { result ≡ unfit_weights (meant kind) weights.now }
 {
-    let least = least_weight(kind);
-    let greatest = greatest_weight(kind);
-    let mut i = 0;
-    while i < weights.len() {
-        let w = weights[i];
-        if !within(least, greatest, w) {
-            return true;
-        }
-        i += 1;
-    }
-    false
+    let least = kind.least();
+    let greatest = kind.greatest();
+    weights.iter().any(|w| !within(least, greatest, *w))
 }
 
-fn bound_ok(bound: i64) -> bool
-    ensures { result ≡ bound_fits bound }
+pub fn out_of_range(kind: Kind, bound: i64, weights: &[i64]) -> bool
+    ensures { result ≡ (unfit_weights (meant kind) weights.now || not (bound_fits bound)) }
 {
-    within(LEAST_BOUND, Limits::BOUND, bound)
-}
-
-pub fn out_of_range(kind: u64, bound: i64, weights: &[i64]) -> bool
-    ensures { result ≡ (unfit_weights kind weights.now || not (bound_fits bound)) }
-{
-    if unfit(kind, weights) {
-        return true;
-    }
-    !bound_ok(bound)
+    unfit(kind, weights) || !within(-Limits::BOUND, Limits::BOUND, bound)
 }
 
 pub fn too_great(weights: &[i64]) -> bool
-    requires { unfit_weights 1 weights.now ≡ false }
+    requires { unfit_weights product weights.now ≡ false }
     ensures { result ≡ product_above weights.now }
 {
     let mut product = 1;
-    let mut i = 0;
-    while i < weights.len() {
-        let weight = weights[i];
-        let w = signed::size(weight);
-        if product > GREATEST_PRODUCT / w {
+    for weight in weights {
+        let size = weight.unsigned_abs();
+        if product > GREATEST_PRODUCT / size {
             return true;
         }
-        product *= w;
-        i += 1;
+        product *= size;
     }
     false
 }

@@ -1,15 +1,15 @@
 -- The check of the sentences, sentence by sentence: those passed are right over every trail that the values show, and no stamp is above
 -- their number. A sentence whose places and words are right can be evaluated.
 use mathlib.Core.Path.{◌≡◌, refl}
-use mathlib.Core.Bool.{Bool, true, false, not}
+use mathlib.Core.Bool.{Bool, true}
 use mathlib.Core.List.{List}
 use Prim.Native.Nat.{ℕ, ◌+◌, ◌<◌, ◌≤◌}
 use native.Mathlib.Omega.{arith}
 use lib.IntN.{ℤ}
-use lib.ListN.{length, replicate}
+use lib.ListN.{replicate}
 use borrow.Author.Count.{below_more, below_none}
 use Rattle.types.specs.declared.Limits.{Limits}
-use Rattle.decide.proofs.Tells.{told_yes, told_no, denied, granted}
+use Rattle.decide.proofs.Tells.{told_yes}
 use Rattle.area.specs.Layout.{record_at}
 use Rattle.extremes.specs.Inner.Stored.{Shows, EvaluateReady}
 use Rattle.entries_check.specs.Inner.Entries.{Stamps}
@@ -30,27 +30,18 @@ module _ {lim : Limits} {w : List ℕ} {n S : ℕ} (asked : SentencesAsked lim w
   none_passed = record { few = omega arith; stamps = zero_stamps 4097 0 refl; right = λ t _. below_none (λ s. SentenceRight lim w n S (record_at n s) t) }
 
   module _ (s : ℕ) (l : s < S) where
-    pub inside : record_at n s + 8 ≤ length w
-    inside = (placed lim w n S s asked.places l).own
-
     pub checkable : (seen : List ℕ) → Stamps seen s → Checkable lim w n S (record_at n s) seen s
     checkable seen stamps = let p = placed lim w n S s asked.places l in search arith
 
     pub ready : SentenceOk lim w n S (record_at n s) → EvaluateReady w n S (record_at n s)
     ready ok = let p = placed lim w n S s asked.places l in (lim, search arith)
 
-    pub words_wrong : ¬ (SentenceOk lim w n S (record_at n s)) → TellsOver w n false (RightBelow lim w n S S)
-    words_wrong d t _ = told_no (λ h. d (h s l).words)
-
-    pub matching_wrong : {r : Bool} → TellsOver w n r (Matching w n S (record_at n s)) → not r ≡ true → TellsOver w n false (RightBelow lim w n S S)
-    matching_wrong m e t shown = told_no (λ h. denied (m t shown) e (h s l).matching)
-
     pub one_passed : {r : Bool} (seen after : List ℕ) → Passed lim w n S s seen → Stamps after (s + 1)
-        → SentenceOk lim w n S (record_at n s) → TellsOver w n r (Matching w n S (record_at n s)) → not r ≡ false → Passed lim w n S (s + 1) after
+        → SentenceOk lim w n S (record_at n s) → TellsOver w n r (Matching w n S (record_at n s)) → r ≡ true → Passed lim w n S (s + 1) after
     one_passed seen after p stamps ok m e = record {
       few = omega arith;
       stamps = stamps;
-      right = λ t shown. below_more (λ k. SentenceRight lim w n S (record_at n k) t) s (p.right t shown) (record { words = ok; matching = granted (m t shown) e });
+      right = λ t shown. below_more (λ k. SentenceRight lim w n S (record_at n k) t) s (p.right t shown) (record { words = ok; matching = (m t shown).yes e });
     }
 
   pub all_passed : (s : ℕ) (seen : List ℕ) → Passed lim w n S s seen → S ≤ s → TellsOver w n true (RightBelow lim w n S S)

@@ -5,7 +5,6 @@ pub mod Determined
 pub mod GivesExtremes
 pub mod GivesSilence
 pub mod Gives
-pub mod CheckMatching
 pub mod CheckSentences
 pub mod Frame
 pub mod Theories

@@ -1,36 +1,26 @@
--- Weights, constants and literals by their words: a number is near 0 where its word is near 2^62, and a literal's atom is half its word.
-use mathlib.Core.Path.{◌≡◌, refl, sym, ap, ◌∙◌}
-use mathlib.Core.Bool.{Bool}
-use Prim.Native.Nat.{ℕ, zero, suc, ◌+◌, ◌-◌, ◌/◌, ◌%◌, ◌<◌, ◌≤◌}
+-- Weights and literals by their words: how far a word is from that of 0, and a literal's atom is half its word.
+use mathlib.Core.Path.{◌≡◌, sym, ap, ◌∙◌}
+use Prim.Native.Nat.{ℕ, ◌+◌, ◌-◌, ◌/◌, ◌%◌, ◌<◌, ◌≤◌}
 use native.Mathlib.Omega.{arith}
 use lib.IntN.{ℤ, pos, negsuc, nat_abs}
 use lib.Signed.{le_z}
 use lib.Dec.{T}
-use Rattle.decide.specs.Inner.Tells.{Tells}
 use Rattle.numbers.specs.Inner.Integers.{positive, negative}
 use Rattle.numbers.specs.Words.{half, unbias, literal_of}
-use Rattle.numbers.proofs.Integers.{ints, size_parts}
-use Rattle.numbers.proofs.Words.{unbias_parts, unbias_zero, unbias_one, literal_even, literal_odd}
+use Rattle.numbers.proofs.Integers.{ints}
+use Rattle.numbers.proofs.Words.{one_from, unbias_parts, unbias_zero, unbias_one, literal_even, literal_odd}
 use Rattle.meaning.specs.Meaning.{atom}
 pub use Rattle.meaning.proofs.Trails.{atom_half}
-use Rattle.area.specs.Layout.{kind_of}
-use Rattle.area.specs.Whole.{Near}
-use Rattle.word_check.specs.Inner.Words.{ConstantOk}
 
 -- ---- numbers
 
-pub near_yes : (x limit : ℕ) → half ≤ x + limit → x ≤ half + limit → Near (unbias x) limit
-near_yes x limit a b = go (unbias x) (unbias_parts x)
+-- how far a word is from that of 0
+pub size_word : (x : ℕ) → nat_abs (unbias x) ≡ (x - half) + (half - x)
+size_word x = go (unbias x) (unbias_parts x)
   where
-    go : (z : ℤ) → positive z + half ≡ negative z + x → nat_abs z ≤ limit
+    go : (z : ℤ) → positive z + half ≡ negative z + x → nat_abs z ≡ (x - half) + (half - x)
     go (pos n) e = omega arith
     go (negsuc n) e = omega arith
-
-pub not_low : (x limit : ℕ) → limit ≤ half → x < half - limit → ¬ (Near (unbias x) limit)
-not_low x limit l h n = omega (arith, unbias_parts x, size_parts (unbias x))
-
-pub not_high : (x limit : ℕ) → half + limit < x → ¬ (Near (unbias x) limit)
-not_high x limit h n = omega (arith, unbias_parts x, size_parts (unbias x))
 
 pub from_one : (x : ℕ) → half < x → T (le_z (pos 1) (unbias x))
 from_one x h = omega (ints, unbias_parts x)
@@ -52,11 +42,8 @@ negative_apart a b e = let z : ◌≡◌ {A = ℕ} 0 1 = cc in omega arith
 pub odd_other : (l : ℕ) → 2 ≤ l → ¬ (l % 2 ≡ 0) → ¬ (literal_of l ≡ pos (atom (literal_of l)))
 odd_other l h n e = negative_apart (l / 2 - 1) (atom (literal_of l)) (sym (literal_odd l h (omega arith)) ∙ e)
 
--- ---- by kind
+-- ---- what the tests need
 
-pub constant_other : {r : Bool} (k written x : ℕ) → ¬ (k ≡ 0) → ¬ (k ≡ 2) → Tells r (x ≡ 0) → Tells r (ConstantOk (kind_of k) written x)
-constant_other zero written x a b t = absurd (a refl)
-constant_other (suc zero) written x a b t = t
-constant_other (suc (suc zero)) written x a b t = absurd (b refl)
-constant_other (suc (suc (suc zero))) written x a b t = t
-constant_other (suc (suc (suc (suc k)))) written x a b t = t
+pub ruleset of_sum = (itself_even, odd_other, some_weight, no_weight)
+
+pub ruleset of_product = (size_word, from_one, one_from)

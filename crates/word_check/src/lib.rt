@@ -1,144 +1,101 @@
 // The check of a stored sentence's single words: its constant, and the weight and literal of an entry. It knows no list of words.
 #![tactic(auto)]
 
-ghost use Rattle.std.specs.Prelude.{◌≡◌, ◌≤◌, ◌<◌};
+ghost use Rattle.std.specs.Prelude.{◌≡◌, ℕ, ◌≤◌, ◌<◌, MatchOption};
 ghost use Rattle.types.specs.Limits.{bound_limit, widest};
 ghost use Rattle.decide.specs.Inner.Tells.{Tells};
 ghost use Rattle.numbers.specs.Words.{half, unbias};
-ghost use Rattle.area.specs.Layout.{kind_of, entry_of};
+ghost use Rattle.kinds.specs.Kinds.{meant};
+ghost use Rattle.area.specs.Layout.{entry_of};
 ghost use Rattle.area.specs.Whole.{Near, SumWeight, ProductWeight, WeightWhole, EntryWhole};
-ghost use Rattle.word_check.specs.Inner.Words.{ConstantOk, Grown};
+ghost use Rattle.word_check.specs.Inner.Words.{ConstantOk, Grown, Past};
 
-use kinds::{Max, Min, Product, Sum};
-use types::Limits;
-
-// The word of 0.
-const HALF: u64 = 4_611_686_018_427_387_904;
+use kinds::{Aggregate, Kind, Max, Min, Product, Sum};
+use types::{HALF, Limits};
 
 // The largest size of a bound, and of a product.
 const BOUND: u64 = Limits::BOUND as u64;
 
 // The most that a written entry of a sum or a count adds to a weight, or to the constant: a count is merged as a sum.
-const ADDEND: u64 = Sum::GREATEST as u64;
+const ADDEND: u64 = Sum::GREATEST_WEIGHT as u64;
 
 // The word of the least weight of a product.
-const LEAST_FACTOR: u64 = HALF + Product::LEAST as u64;
+const LEAST_FACTOR: u64 = HALF + Product::LEAST_WEIGHT as u64;
 
 // The largest size of a maximum's weight, and of a minimum's.
-const IN_MAX: u64 = Max::GREATEST as u64;
+const IN_MAX: u64 = Max::GREATEST_WEIGHT as u64;
 
-const IN_MIN: u64 = Min::GREATEST as u64;
-
-// A factor with which no product up to the bound wraps. At most 14 factors of a product up to the bound are larger.
-const SMALL: u64 = 18;
+const IN_MIN: u64 = Min::GREATEST_WEIGHT as u64;
 
 pub fn near(x: u64, limit: u64) -> bool
     requires { limit ≤ half }
     ensures { Tells result (Near (unbias x) limit) }
 {
-    if x < HALF - limit {
-        return false;
-    }
-    if x > HALF + limit {
-        return false;
-    }
-    true
+    (HALF - limit..=HALF + limit).contains(&x)
 }
 
+#[tactic(auto, using(crate::proofs::Weights::of_sum))]
 fn added(written: u64, weight: u64, literal: u64) -> bool
     requires { (written ≤ widest.each) × (2 ≤ literal) }
     ensures { Tells result (SumWeight written (entry_of weight literal)) }
 {
-    if literal % 2 != 0 {
-        return false;
-    }
-    if weight == HALF {
-        return false;
-    }
-    near(weight, ADDEND * written)
+    literal % 2 == 0 && weight != HALF && near(weight, ADDEND * written)
 }
 
-fn multiplied(weight: u64, literal: u64) -> bool
-    ensures { Tells result (ProductWeight (entry_of weight literal)) }
+#[tactic(auto, using(crate::proofs::Weights::of_product))]
+fn multiplied(weight: u64) -> bool
+    ensures { (literal : ℕ) → Tells result (ProductWeight (entry_of weight literal)) }
 {
-    if weight < LEAST_FACTOR {
-        return false;
-    }
-    if weight > HALF + BOUND {
-        return false;
-    }
-    true
+    (LEAST_FACTOR..=HALF + BOUND).contains(&weight)
 }
 
-fn weight_ok(kind: u64, written: u64, weight: u64, literal: u64) -> bool
-    requires { (written ≤ widest.each) × (2 ≤ literal) × (kind ≤ 4) }
-    ensures { Tells result (WeightWhole (kind_of kind) written (entry_of weight literal)) }
+fn weight_ok(kind: Kind, written: u64, weight: u64, literal: u64) -> bool
+    requires { (written ≤ widest.each) × (2 ≤ literal) }
+    ensures { Tells result (WeightWhole (meant kind) written (entry_of weight literal)) }
 {
-    if kind == 0 {
-        return added(written, weight, literal);
+    match kind {
+        Kind::Sum | Kind::Count => added(written, weight, literal),
+        Kind::Product => multiplied(weight),
+        Kind::Max => near(weight, IN_MAX),
+        Kind::Min => near(weight, IN_MIN),
     }
-    if kind == 1 {
-        return multiplied(weight, literal);
-    }
-    if kind == 2 {
-        return added(written, weight, literal);
-    }
-    if kind == 3 {
-        return near(weight, IN_MAX);
-    }
-    near(weight, IN_MIN)
 }
 
-pub fn entry_ok(n: u64, head: u64, kind: u64, written: u64, weight: u64, literal: u64) -> bool
-    requires { (written ≤ widest.each) × (kind ≤ 4) }
-    ensures { Tells result (EntryWhole n head (kind_of kind) written (entry_of weight literal)) }
+#[tactic(auto, using(meaning::proofs::Trails::atom_half))]
+pub fn entry_ok(n: u64, head: u64, kind: Kind, written: u64, weight: u64, literal: u64) -> bool
+    requires { written ≤ widest.each }
+    ensures { Tells result (EntryWhole n head (meant kind) written (entry_of weight literal)) }
 {
-    if literal < 2 {
-        return false;
-    }
-    if literal / 2 > n {
-        return false;
-    }
-    if literal / 2 == head {
-        return false;
-    }
-    if !weight_ok(kind, written, weight, literal) {
-        return false;
-    }
-    true
+    literal >= 2
+        && literal / 2 <= n
+        && literal / 2 != head
+        && weight_ok(kind, written, weight, literal)
 }
 
-pub fn constant_ok(kind: u64, written: u64, constant: u64) -> bool
-    requires { (written ≤ widest.each) × (kind ≤ 4) }
-    ensures { Tells result (ConstantOk (kind_of kind) written constant) }
+pub fn constant_ok(kind: Kind, written: u64, constant: u64) -> bool
+    requires { written ≤ widest.each }
+    ensures { Tells result (ConstantOk (meant kind) written constant) }
 {
-    if kind == 0 {
-        return near(constant, ADDEND * written);
+    match kind {
+        Kind::Sum | Kind::Count => near(constant, ADDEND * written),
+        Kind::Product | Kind::Max | Kind::Min => constant == 0,
     }
-    if kind == 2 {
-        return near(constant, ADDEND * written);
-    }
-    constant == 0
 }
 
-// A product with one weight more, and 0 where that passes 10^18; the other kinds have no product.
-pub fn grown(kind: u64, product: u64, weight: u64) -> u64
-    requires { (1 ≤ product) × (product ≤ bound_limit) × (kind ≡ 1 → half < weight) }
-    ensures { Grown kind product weight result }
+// A product with one weight more, and None where that passes 10^18; the other kinds have no product.
+pub fn grown(kind: Kind, product: u64, weight: u64) -> Option<u64>
+    requires { (1 ≤ product) × (product ≤ bound_limit) × (kind ≡ Kind.Product → half < weight) }
+    ensures { MatchOption result (Past (meant kind) product weight) (Grown (meant kind) product weight) }
 {
-    if kind != 1 {
-        return product;
-    }
-    let factor = weight - HALF;
-    if factor <= SMALL {
-        let next = product * factor;
-        if next > BOUND {
-            return 0;
+    match kind {
+        Kind::Product => {
+            let next = product as u128 * (weight - HALF) as u128;
+            if next <= BOUND as u128 {
+                Some(next as u64)
+            } else {
+                None
+            }
         }
-        return next;
+        Kind::Sum | Kind::Count | Kind::Max | Kind::Min => Some(product),
     }
-    if product > BOUND / factor {
-        return 0;
-    }
-    product * factor
 }

@@ -1,40 +1,40 @@
--- 9, the refusal, too few lent words, or done (`Changing`).
-use Rattle.std.proofs.Common.{◌≡◌, refl, arith}
-use mir.Syntax.{w64}
+-- What `ready` refuses, what it lets through, and what is done (`Changing`).
+use Rattle.std.proofs.Common.{refl, ℕ, w64, arith}
 use mir.ValLaws.{to_z-of_z}
+use Rattle.std.proofs.lemmas.Result.{err_from_is_err_and}
 use Rattle.book.specs.Table.{give}
-use Rattle.whole.specs.Parts.{counters_with}
-use Rattle.give.specs.Inner.Ready.{Usable}
-use Rattle.give.specs.Inner.Refused.{refusal_code}
+use Rattle.calls.specs.Calls.{counted}
 use Rattle.c_interface.specs.Interface.{next_counters}
-use Rattle.c_calls.proofs.Changing.{Asked, changes_early, changes_done, two_words, code_small}
+use Rattle.c_calls.proofs.Changing.{Found, ready_refused, ready_few, ready_never, ready_done, two_words}
 use Rattle.c_calls.proofs.give.Goals as goal
+use Rattle.c_calls.proofs.give.Goals.{After-open_atom}
 
-pub early-refused-requires : goal.early-refused-requires
-early-refused-requires c =
-    let u : Usable c.args.lim c.args.area.now (counters_with c.args.length c.args.level) =
-    record { fitting = c.requires; whole = c.is_whole.ensures.yes c.if-not-is_whole.false } in
-    let code : c.give_refusal-code.result ≡ refusal_code c.args.lim c.args.area.now (give c.args.literal) =
-    rw (to_z-of_z w64 c.args.literal c.ranges.literal) at (c.give_refusal-code.ensures c.args.lim _ u) in
-    (omega (arith, code, code_small c.args.lim c.args.area.now (give c.args.literal)), omega arith, omega arith)
+found : (c : After-open_atom) → Found c.args.lim c.args.area.now (counted c.args.counters) (give c.args.literal) ℕ c.open_atom.result
+found c =
+    let whole = c.is_whole.ensures.yes c.if-not-is_whole.false in
+    record {
+      whole = whole;
+      code = rw (to_z-of_z w64 c.args.literal c.ranges.literal) at (c.open_atom.ensures.refusal c.args.lim _ (record { fitting = c.requires; whole = whole }));
+    }
 
-pub returns-then-refused-ne0 : goal.returns-then-refused-ne0
-returns-then-refused-ne0 c =
-    let u : Usable c.args.lim c.args.area.now (counters_with c.args.length c.args.level) =
-    record { fitting = c.requires; whole = c.is_whole.ensures.yes c.if-not-is_whole.false } in
-    let code : c.give_refusal-code.result ≡ refusal_code c.args.lim c.args.area.now (give c.args.literal) =
-    rw (to_z-of_z w64 c.args.literal c.ranges.literal) at (c.give_refusal-code.ensures c.args.lim _ u) in
-    let asked : Asked c.args.lim c.args.area.now (counters_with c.args.length c.args.level) (give c.args.literal) next_counters c.args.next.now
-    c.give_refusal-code.result c.early-refused.result = record { whole = u.whole; code = code; number = c.early-refused.ensures } in
-    changes_early asked c.if-refused-ne0.true
+pub returns-in_err-ready : goal.returns-in_err-ready
+returns-in_err-ready c =
+    let f = found (goal.at.returns-in_err-ready c).After-open_atom in
+    let p = err_from_is_err_and c.from_residual.result c.from_residual.ensures.1 in
+    record {
+      changes = rw (p.1, p.2) (ready_refused f next_counters c.args.next.now _ c.in_err-ready.ensures);
+      small = rw (p.1, p.2) (ready_few f next_counters c.args.next.now (omega arith) _ c.in_err-ready.ensures);
+    }
 
-pub returns : goal.returns
-returns c =
-    let u : Usable c.args.lim c.args.area.now (counters_with c.args.length c.args.level) =
-    record { fitting = c.requires; whole = c.is_whole.ensures.yes c.if-not-is_whole.false } in
-    let code : c.give_refusal-code.result ≡ refusal_code c.args.lim c.args.area.now (give c.args.literal) =
-    rw (to_z-of_z w64 c.args.literal c.ranges.literal) at (c.give_refusal-code.ensures c.args.lim _ u) in
-    let asked : Asked c.args.lim c.args.area.now (counters_with c.args.length c.args.level) (give c.args.literal) next_counters c.args.next.now
-    c.give_refusal-code.result c.early-refused.result = record { whole = u.whole; code = code; number = c.early-refused.ensures } in
-    changes_done asked c.if-refused-ne0.false two_words refl
-    (rw (to_z-of_z w64 c.args.literal c.ranges.literal) at (c.give_whole-done.ensures c.args.lim u)) c.put_two.ensures refl
+pub returns-in_err-given : goal.returns-in_err-given
+returns-in_err-given c =
+    let f = found (goal.at.returns-in_err-given c).After-open_atom in
+    absurd (ready_never f next_counters c.args.next.now c.in_ok-ready.ensures _
+    (rw (to_z-of_z w64 c.args.literal c.ranges.literal) at (c.in_err-given.ensures c.args.lim (record { fitting = c.requires; whole = f.whole }))))
+
+pub returns-clause-changes : goal.returns-clause-changes
+returns-clause-changes c =
+    let f = found (goal.at.returns-clause-changes c).After-open_atom in
+    ready_done f next_counters c.args.next.now c.in_ok-ready.ensures two_words refl
+    (rw (to_z-of_z w64 c.args.literal c.ranges.literal) at (c.in_ok-given.ensures c.args.lim (record { fitting = c.requires; whole = f.whole })))
+    c.put_front.ensures refl

@@ -1,34 +1,36 @@
--- 9, the refusal, too few lent words, or done (`Changing`).
-use Rattle.std.proofs.Common.{◌≡◌, refl, arith}
+-- What `ready` refuses, what it lets through, and what is done (`Changing`).
+use Rattle.std.proofs.Common.{refl, arith}
+use Rattle.std.proofs.lemmas.Result.{err_from_is_err_and}
 use Rattle.book.specs.Table.{take_back}
-use Rattle.whole.specs.Parts.{counters_with}
-use Rattle.give.specs.Inner.Ready.{Usable}
-use Rattle.give.specs.Inner.Refused.{refusal_code}
+use Rattle.calls.specs.Calls.{counted}
 use Rattle.c_interface.specs.Interface.{next_counters}
-use Rattle.c_calls.proofs.Changing.{Asked, changes_early, changes_done, two_words, code_small}
+use Rattle.c_calls.proofs.Changing.{Found, ready_refused, ready_few, ready_never, ready_done, two_words}
 use Rattle.c_calls.proofs.take_back.Goals as goal
+use Rattle.c_calls.proofs.take_back.Goals.{After-check_take_back}
 
-pub early-refused-requires : goal.early-refused-requires
-early-refused-requires c =
-    let u : Usable c.args.lim c.args.area.now (counters_with c.args.length c.args.level) =
-    record { fitting = c.requires; whole = c.is_whole.ensures.yes c.if-not-is_whole.false } in
-    let code : c.take_back_refusal-code.result ≡ refusal_code c.args.lim c.args.area.now (take_back c.args.k) = c.take_back_refusal-code.ensures c.args.lim c.args.area.now u.whole.level_is in
-    (omega (arith, code, code_small c.args.lim c.args.area.now (take_back c.args.k)), omega arith, omega arith)
+found : (c : After-check_take_back) → Found c.args.lim c.args.area.now (counted c.args.counters) (take_back c.args.level.0) (Unit {0}) c.check_take_back.result
+found c =
+    let whole = c.is_whole.ensures.yes c.if-not-is_whole.false in
+    record { whole = whole; code = c.check_take_back.ensures c.args.lim c.args.area.now whole.level_is }
 
-pub returns-then-refused-ne0 : goal.returns-then-refused-ne0
-returns-then-refused-ne0 c =
-    let u : Usable c.args.lim c.args.area.now (counters_with c.args.length c.args.level) =
-    record { fitting = c.requires; whole = c.is_whole.ensures.yes c.if-not-is_whole.false } in
-    let code : c.take_back_refusal-code.result ≡ refusal_code c.args.lim c.args.area.now (take_back c.args.k) = c.take_back_refusal-code.ensures c.args.lim c.args.area.now u.whole.level_is in
-    let asked : Asked c.args.lim c.args.area.now (counters_with c.args.length c.args.level) (take_back c.args.k) next_counters c.args.next.now
-    c.take_back_refusal-code.result c.early-refused.result = record { whole = u.whole; code = code; number = c.early-refused.ensures } in
-    changes_early asked c.if-refused-ne0.true
+pub returns-in_err-ready : goal.returns-in_err-ready
+returns-in_err-ready c =
+    let f = found (goal.at.returns-in_err-ready c).After-check_take_back in
+    let p = err_from_is_err_and c.from_residual.result c.from_residual.ensures.1 in
+    record {
+      changes = rw (p.1, p.2) (ready_refused f next_counters c.args.next.now _ c.in_err-ready.ensures);
+      small = rw (p.1, p.2) (ready_few f next_counters c.args.next.now (omega arith) _ c.in_err-ready.ensures);
+    }
 
-pub returns : goal.returns
-returns c =
-    let u : Usable c.args.lim c.args.area.now (counters_with c.args.length c.args.level) =
-    record { fitting = c.requires; whole = c.is_whole.ensures.yes c.if-not-is_whole.false } in
-    let code : c.take_back_refusal-code.result ≡ refusal_code c.args.lim c.args.area.now (take_back c.args.k) = c.take_back_refusal-code.ensures c.args.lim c.args.area.now u.whole.level_is in
-    let asked : Asked c.args.lim c.args.area.now (counters_with c.args.length c.args.level) (take_back c.args.k) next_counters c.args.next.now
-    c.take_back_refusal-code.result c.early-refused.result = record { whole = u.whole; code = code; number = c.early-refused.ensures } in
-    changes_done asked c.if-refused-ne0.false two_words refl c.take_back_whole-done.ensures c.put_two.ensures refl
+pub returns-in_err-left : goal.returns-in_err-left
+returns-in_err-left c =
+    let f = found (goal.at.returns-in_err-left c).After-check_take_back in
+    absurd (ready_never f next_counters c.args.next.now c.in_ok-ready.ensures _
+    (c.in_err-left.ensures c.args.lim (record { fitting = c.requires; whole = f.whole })))
+
+pub returns-clause-changes : goal.returns-clause-changes
+returns-clause-changes c =
+    let f = found (goal.at.returns-clause-changes c).After-check_take_back in
+    ready_done f next_counters c.args.next.now c.in_ok-ready.ensures two_words refl
+    (c.in_ok-left.ensures c.args.lim (record { fitting = c.requires; whole = f.whole }))
+    c.put_front.ensures refl

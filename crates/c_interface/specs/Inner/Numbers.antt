@@ -1,7 +1,25 @@
 -- The one number by a code and a value: what the code works with. `c_interface/proofs/Telling` says that it is the table's answer.
-use Rattle.std.specs.Prelude.{Bool, not, cond, ◌||◌, ℕ, eqb, ltb}
+use Rattle.std.specs.Prelude.{Bool, not, cond, ◌||◌, ℕ, eqb, ltb, Result, Ok, Err}
 use Rattle.book.specs.Table.{Returned}
+use Rattle.calls.specs.declared.Refusal.{Refusal}
+use Rattle.calls.specs.declared.Refusal.TheVariants.{TooShort}
+use Rattle.calls.specs.Refusals as refusals
 use Rattle.c_interface.specs.Interface.{packed}
+
+-- of what the code hands back, a value or a refusal
+abbrev pub value_in : Result ℕ Refusal → ℕ
+value_in (Ok value) = value
+value_in (Err e) = refusals.value_of e
+
+abbrev pub number_in : Result ℕ Refusal → ℕ
+number_in (Ok value) = packed 0 value
+number_in (Err e) = packed (refusals.code_of e) (refusals.value_of e)
+
+-- a refusal stays, and what is not refused is where the lent words are too few
+module _ {A : Type 0} where
+  abbrev pub readied : Result A Refusal → (needed room : ℕ) → Result A Refusal
+  readied (Ok a) needed room = cond (ltb room needed) (Err (TooShort needed)) (Ok a)
+  readied (Err e) needed room = Err e
 
 -- a refusal's code and value, then 18 where the lent words are too few, with those that are needed; at code 0 the value that goes with it
 abbrev pub one_number : (code value needed room last : ℕ) → ℕ

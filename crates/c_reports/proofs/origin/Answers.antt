@@ -1,13 +1,16 @@
--- The list call's code and value fit one number (`Sizes`).
-use Rattle.std.proofs.Common.{length}
-use mir.Syntax.{w64}
+-- The list call's answer in one number, which fits a word (`Reporting`, `Sizes`).
+use Rattle.std.proofs.Common.{length, w64}
 use mir.ValLaws.{to_z-of_z}
 use Rattle.calls.specs.Calls.{listed_returned}
 use Rattle.c_reports.proofs.Sizes.{origin_small}
+use Rattle.c_reports.proofs.Reporting.{lists, listed_value}
 use Rattle.c_reports.proofs.origin.Goals as goal
 
-pub answer-requires : goal.answer-requires
-answer-requires c =
-    let l = rw (to_z-of_z w64 c.args.literal c.ranges.literal) at c.origin_within-found.ensures in
-    origin_small c.args.lim c.requires c.args.area.now _ (listed_returned c.origin_within-found.result) c.args.literal (length c.args.list.now)
-    l.answer
+pub returns : goal.returns
+returns c =
+    let r = c.origin_within.result in
+    let listed = rw (to_z-of_z w64 c.args.literal c.ranges.literal) at c.origin_within.ensures in
+    record {
+      reports = lists r listed;
+      small = rw (listed_value r) (origin_small c.args.lim c.requires c.args.area.now _ (listed_returned r) c.args.literal (length c.args.list.now) listed.answer);
+    }

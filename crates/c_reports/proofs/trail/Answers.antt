@@ -1,10 +1,15 @@
--- The list call's code and value fit one number (`Sizes`).
+-- The list call's answer in one number, which fits a word (`Reporting`, `Sizes`).
 use Rattle.std.proofs.Common.{length}
 use Rattle.calls.specs.Calls.{listed_returned}
 use Rattle.c_reports.proofs.Sizes.{trail_small}
+use Rattle.c_reports.proofs.Reporting.{lists, listed_value}
 use Rattle.c_reports.proofs.trail.Goals as goal
 
-pub answer-requires : goal.answer-requires
-answer-requires c =
-    trail_small c.args.lim c.requires c.args.area.now _ (listed_returned c.list_trail_within-found.result) (length c.args.list.now)
-    c.list_trail_within-found.ensures.answer
+pub returns : goal.returns
+returns c =
+    let r = c.list_trail_within.result in
+    let listed = c.list_trail_within.ensures in
+    record {
+      reports = lists r listed;
+      small = rw (listed_value r) (trail_small c.args.lim c.requires c.args.area.now _ (listed_returned r) (length c.args.list.now) listed.answer);
+    }

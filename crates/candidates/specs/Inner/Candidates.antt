@@ -1,6 +1,6 @@
 -- What a search asks of its list and what it does with one literal of it, on a whole area: all literals are of atoms, the next open one, and one
 -- that is tried at a level of its own.
-use Rattle.std.specs.Prelude.{◌≡◌, true, false, List, ℕ, ◌<◌, ◌≤◌, length, drop, get_or, ℤ, pos, leb}
+use Rattle.std.specs.Prelude.{◌≡◌, true, false, List, ℕ, ◌<◌, ◌≤◌, length, drop, get_or, ℤ, pos, leb, Option, Some, None, Result, Ok, Err}
 use Rattle.types.specs.declared.Limits.{Limits}
 use Rattle.meaning.specs.Meaning.{atom}
 use Rattle.literals.specs.Inner.Literals.{unknown}
@@ -8,7 +8,9 @@ use Rattle.book.specs.Rows.{any}
 use Rattle.book.specs.Table.{State, no_atom, on_trail, giving, opening, following, trying}
 use Rattle.book.specs.Book.{Counters}
 use Rattle.area.specs.Layout.{atoms_of, level_of}
-use Rattle.calls.specs.Calls.{area_state, Moved}
+use Rattle.types.specs.declared.Counters as t
+use Rattle.calls.specs.declared.Refusal.{Refusal}
+use Rattle.calls.specs.Calls.{area_state, counted, Moved}
 use Rattle.whole.specs.Inner.Usable.{Usable}
 
 -- no literal of the list is 0 or of no atom: the table's test for 10, at a state of n atoms
@@ -30,12 +32,16 @@ pub record NextAsked (w : List ℕ) (ls : List ℤ) (start : ℕ) : Type 0 where
 abbrev pub nth : List ℤ → ℕ → ℤ
 nth ls j = get_or ls j (pos 0)
 
--- from `start` on, the literals before j are passed over, and literal j is open, or j is the list's end
-pub record NextIs (q : State) (ls : List ℤ) (start j : ℕ) : Type 0 where
+-- from `start` on, the literals before j are passed over
+pub record PassedTo (q : State) (ls : List ℤ) (start j : ℕ) : Type 0 where
   pub later : start ≤ j
   pub inside : j ≤ length ls
   pub passed : (total : ℕ) → trying q total start (drop start ls) ≡ trying q total j (drop j ls)
-  pub is_open : j < length ls → on_trail q (atom (nth ls j)) ≡ false
+
+-- and literal j is open, or none is
+abbrev pub NextIs : State → List ℤ → ℕ → Option ℕ → Type 0
+NextIs q ls start (Some j) = PassedTo q ls start j × (j < length ls) × (on_trail q (atom (nth ls j)) ≡ false)
+NextIs q ls start None = PassedTo q ls start (length ls)
 
 -- ---- a literal tried
 
@@ -44,16 +50,15 @@ pub record Tryable (lim : Limits) (w : List ℕ) (c : Counters) (l : ℤ) : Type
   pub known : no_atom (area_state lim w) l ≡ false
   pub off : on_trail (area_state lim w) (atom l) ≡ false
 
-pub record LevelRefused (lim : Limits) (w w' : List ℕ) (c c' : Counters) : Type 0 where
+pub record LevelRefused (lim : Limits) (w w' : List ℕ) : Type 0 where
   pub highest : leb lim.levels (level_of w) ≡ true
   pub area_same : w' ≡ w
-  pub counters_same : c' ≡ c
 
 pub record LiteralGiven (lim : Limits) (w w' : List ℕ) (c c' : Counters) (l : ℤ) : Type 0 where
   pub below : leb lim.levels (level_of w) ≡ false
   pub moved : Moved lim w w' c' (giving (following (area_state lim w) (opening (area_state lim w))) l)
   pub longer : c.length_is ≤ c'.length_is
 
-pub record Tried (lim : Limits) (w w' : List ℕ) (c c' : Counters) (l : ℤ) (code : ℕ) : Type 0 where
-  pub refused : ¬ (code ≡ 0) → LevelRefused lim w w' c c'
-  pub given : code ≡ 0 → LiteralGiven lim w w' c c' l
+abbrev pub Tried : Limits → (w w' : List ℕ) → Counters → ℤ → Result t.Counters Refusal → Type 0
+Tried lim w w' c l (Ok d) = LiteralGiven lim w w' c (counted d) l
+Tried lim w w' c l (Err e) = LevelRefused lim w w'

@@ -1,5 +1,5 @@
 -- Where literals stand among the first rows of the stored trail: the literal of an atom, and a literal given by a caller.
-use Rattle.std.specs.Prelude.{◌≡◌, true, false, List, ◌∷◌, ℕ, ◌<◌, ◌≤◌, ℤ}
+use Rattle.std.specs.Prelude.{◌≡◌, true, false, List, ◌∷◌, ℕ, ◌<◌, ◌≤◌, ℤ, Option, MatchOption}
 use Rattle.meaning.specs.Meaning.{same}
 use Rattle.book.specs.Rows.{trail, pick, row_of, any}
 use Rattle.area.specs.Layout.{value_at, row_at, rows_from, value_word}
@@ -34,16 +34,22 @@ pub record AtomAt (n a r : ℕ) : Type 0 where
 abbrev pub before : List ℕ → ℕ → ℕ → List ℤ
 before w n limit = trail (rows_from w n limit)
 
--- where the literal of atom a stands among the first `limit` rows, or `limit`
-pub record CauseAt (w : List ℕ) (n a limit r : ℕ) : Type 0 where
-  pub few : r ≤ limit
-  pub stands : r < limit → (rest : List ℤ) → pick (before w n limit) a rest ≡ (row_at w n r).literal ∷ rest
-  pub absent : r ≡ limit → (rest : List ℤ) → pick (before w n limit) a rest ≡ rest
+-- the literal of atom a stands at position p, among the first `limit` rows
+pub record CauseStands (w : List ℕ) (n a limit p : ℕ) : Type 0 where
+  pub inside : p < limit
+  pub picked : (rest : List ℤ) → pick (before w n limit) a rest ≡ (row_at w n p).literal ∷ rest
 
--- where the literal l stands among the first len rows, or len
-pub record PositionIs (w : List ℕ) (n : ℕ) (l : ℤ) (len r : ℕ) : Type 0 where
-  pub few : r ≤ len
-  pub literal_is : r < len → (row_at w n r).literal ≡ l
-  pub row_is : r < len → row_of l (rows_from w n len) ≡ record { mine = row_at w n r; before = rows_from w n r }
-  pub stands : r < len → any (same l) (before w n len) ≡ true
-  pub absent : r ≡ len → any (same l) (before w n len) ≡ false
+-- where the literal of atom a stands among the first `limit` rows, or none where it is not among them
+abbrev pub CauseAt : List ℕ → ℕ → ℕ → ℕ → Option ℕ → Type 0
+CauseAt w n a limit r = MatchOption r ((rest : List ℤ) → pick (before w n limit) a rest ≡ rest) (λ p. CauseStands w n a limit p)
+
+-- the literal l stands at position p, among the first len rows
+pub record Stands (w : List ℕ) (n : ℕ) (l : ℤ) (len p : ℕ) : Type 0 where
+  pub inside : p < len
+  pub literal_is : (row_at w n p).literal ≡ l
+  pub row_is : row_of l (rows_from w n len) ≡ record { mine = row_at w n p; before = rows_from w n p }
+  pub found : any (same l) (before w n len) ≡ true
+
+-- where the literal l stands among the first len rows, or none where it is not among them
+abbrev pub PositionIs : List ℕ → ℕ → ℤ → ℕ → Option ℕ → Type 0
+PositionIs w n l len r = MatchOption r (any (same l) (before w n len) ≡ false) (λ p. Stands w n l len p)

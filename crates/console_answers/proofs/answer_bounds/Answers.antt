@@ -5,4 +5,4 @@ use Rattle.answer_lines.proofs.Fits.{bounds_fits}
 use Rattle.console_answers.proofs.answer_bounds.Goals as goal
 
 pub write-requires : goal.write-requires
-write-requires c = on_page c.put_bounds-end.ensures (bounds_fits (bounds_returned c.args.answer))
+write-requires c = on_page c.new-page.ensures.start c.put_bounds.ensures (rw c.new-page.ensures.bytes (bounds_fits (bounds_returned c.args.answer)))

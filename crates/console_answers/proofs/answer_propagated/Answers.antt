@@ -4,4 +4,4 @@ use Rattle.answer_lines.proofs.Fits.{propagated_fits}
 use Rattle.console_answers.proofs.answer_propagated.Goals as goal
 
 pub write-requires : goal.write-requires
-write-requires c = on_page c.put_propagated-end.ensures (propagated_fits c.args.answer)
+write-requires c = on_page c.new-page.ensures.start c.put_propagated.ensures (rw c.new-page.ensures.bytes (propagated_fits c.args.answer))

@@ -5,5 +5,6 @@ use Rattle.answer_lines.proofs.Fits.{trail_on_page}
 use Rattle.console_answers.proofs.answer_trail.Goals as goal
 
 pub write-requires : goal.write-requires
-write-requires c = trail_on_page (listed_returned c.args.answer) c.args.list.now 3072 c.told-list refl
-    c.put_trail-end.ensures
+write-requires c =
+    trail_on_page (listed_returned c.args.answer) c.args.list.now 3072 c.told-list c.new-page.ensures.start
+    (rw c.new-page.ensures.bytes refl) c.put_trail.ensures

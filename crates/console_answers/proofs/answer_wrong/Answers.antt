@@ -6,4 +6,6 @@ use Rattle.pages.proofs.Lengths.{decimal_short}
 use Rattle.console_answers.proofs.answer_wrong.Goals as goal
 
 pub write-requires : goal.write-requires
-write-requires c = on_page c.put_line-end.ensures (simp length-append (omega (arith, decimal_short c.args.number)))
+write-requires c =
+    on_page c.new-page.ensures.start c.put_line.ensures
+    (rw c.new-page.ensures.bytes (simp length-append (omega (arith, decimal_short c.args.number))))

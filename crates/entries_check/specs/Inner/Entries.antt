@@ -1,12 +1,12 @@
 -- The clauses of a sentence's wholeness that speak of its entries, by number, and what their check asks and leaves: a table of stamps, by
 -- which an atom met before is known.
-use Rattle.std.specs.Prelude.{◌≡◌, Bool, List, ℕ, ◌+◌, ◌*◌, ◌-◌, ◌<◌, ◌≤◌, ◌%◌, length}
+use Rattle.std.specs.Prelude.{◌≡◌, Bool, List, ℕ, ◌+◌, ◌*◌, ◌-◌, ◌<◌, ◌≤◌, length}
 use Rattle.types.specs.Limits.{bound_limit, widest}
 use Rattle.decide.specs.Inner.Tells.{Tells}
 use Rattle.decide.specs.Below.{product_below}
 use Rattle.numbers.specs.Words.{half}
-use Rattle.meaning.specs.Meaning.{Entry, entry_atom}
-use Rattle.area.specs.Layout.{word, tag_at, written_at, merged_at, kind_of, entry_of}
+use Rattle.meaning.specs.Meaning.{Entry, entry_atom, product}
+use Rattle.area.specs.Layout.{word, written_at, merged_at, kind_of, kind_at, entry_of}
 use Rattle.area.specs.Whole.{EntryWhole}
 
 -- entry i of those that start at `at`
@@ -24,15 +24,14 @@ pub record Stamps (seen : List ℕ) (old : ℕ) : Type 0 where
 
 -- the merged entries, which start at `at`
 pub record EntriesOk (w : List ℕ) (n b at : ℕ) : Type 0 where
-  pub each : (i : ℕ) → i < merged_at w b → EntryWhole n (word w b) (kind_of (tag_at w b % 8)) (written_at w b) (stored_entry w at i)
+  pub each : (i : ℕ) → i < merged_at w b → EntryWhole n (word w b) (kind_of (kind_at w b)) (written_at w b) (stored_entry w at i)
   pub once : (i j : ℕ) → i < merged_at w b → j < merged_at w b → entry_atom (stored_entry w at i) ≡ entry_atom (stored_entry w at j) → i ≡ j
-  pub product : tag_at w b % 8 ≡ 1 → product_below (merged_at w b) (factor w at) ≤ bound_limit
+  pub weights : kind_of (kind_at w b) ≡ product → product_below (merged_at w b) (factor w at) ≤ bound_limit
 
 -- what the check of the entries asks
 pub record EntriesAsked (w : List ℕ) (n b at : ℕ) (seen : List ℕ) (old : ℕ) : Type 0 where
   pub atoms : n ≤ widest.atoms
   pub own : b + 8 ≤ length w
-  pub kind : tag_at w b % 8 ≤ 4
   pub few : written_at w b ≤ widest.each
   pub merged : merged_at w b ≤ widest.each
   pub room : at + 2 * merged_at w b ≤ length w

@@ -5,7 +5,7 @@ use Rattle.types.specs.Limits.{weight_limit, bound_limit, widest}
 use Rattle.numbers.specs.Words.{unbias}
 use Rattle.meaning.specs.Meaning.{Entry, Kind, sum, product, count, maximum, minimum}
 use Rattle.meaning.specs.Merge.{turned_by, freed_by}
-use Rattle.area.specs.Layout.{kind_of, entry_of}
+use Rattle.area.specs.Layout.{entry_of}
 use Rattle.entry_words.specs.declared.Turned.{Turned}
 
 -- as it is collected, and what it adds to the constant
@@ -24,9 +24,9 @@ freed maximum e = pos 0
 freed minimum e = pos 0
 
 -- the same, as words
-pub record TurnedIs (kind x l : ℕ) (r : Turned) : Type 0 where
-  pub entry : entry_of r.weight r.literal ≡ positive (kind_of kind) (entry_of x l)
-  pub freed_is : unbias r.freed ≡ freed (kind_of kind) (entry_of x l)
+pub record TurnedIs (kind : Kind) (x l : ℕ) (r : Turned) : Type 0 where
+  pub entry : entry_of r.weight r.literal ≡ positive kind (entry_of x l)
+  pub freed_is : unbias r.freed ≡ freed kind (entry_of x l)
   pub low : 2 ≤ r.literal
   pub high : r.literal ≤ 8193
 

@@ -1,7 +1,7 @@
 -- What is known of a stored sentence before its entries are scanned, and what the scan then asks.
 use Rattle.std.specs.Prelude.{◌≡◌, Bool, cond, ◌&&◌, List, ℕ, ◌+◌, ◌*◌, ◌/◌, eqb}
 use Rattle.area.specs.Layout.{word, merged_at, value_at, entry_at, entry_words}
-use Rattle.extremes.specs.declared.Kind.{Kind}
+use Rattle.kinds.specs.declared.Kind.{Kind}
 use Rattle.evaluate.specs.declared.Said.{Said}
 use Rattle.evaluate.specs.declared.Said.TheVariants as said
 use Rattle.evaluate.specs.declared.Body.{Body}

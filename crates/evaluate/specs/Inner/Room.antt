@@ -1,8 +1,8 @@
 -- What the scan of a sentence's entries asks: turning an open entry does not wrap.
 use Rattle.std.specs.Prelude.{◌≡◌, Bool, false, List, [], ◌∷◌, ℕ, ◌+◌, ◌-◌, ◌*◌, ◌/◌, ◌≤◌, ◌<◌}
 use Rattle.numbers.specs.Words.{half, top}
-use Rattle.extremes.specs.declared.Kind.{Kind}
-use Rattle.extremes.specs.declared.Kind.TheVariants.{Sum, Product, Count, Max, Min}
+use Rattle.kinds.specs.declared.Kind.{Kind}
+use Rattle.kinds.specs.declared.Kind.TheVariants.{Sum, Product, Count, Max, Min}
 use Rattle.extremes.specs.Inner.Words.{furthest_word, nearest_word}
 
 -- turning an entry of weight w does not wrap

@@ -2,8 +2,8 @@
 use Rattle.std.specs.Prelude.{Bool, true, false, not, cond, ◌&&◌, List, [], ◌∷◌, ℕ, ◌+◌, ◌-◌, ◌*◌, ◌/◌, ◌%◌, leb, eqb}
 use Rattle.numbers.specs.Words.{half}
 use Rattle.area.specs.Layout.{upper_at, bound_at}
-use Rattle.extremes.specs.declared.Kind.{Kind}
-use Rattle.extremes.specs.declared.Kind.TheVariants.{Sum, Product, Count, Max, Min}
+use Rattle.kinds.specs.declared.Kind.{Kind}
+use Rattle.kinds.specs.declared.Kind.TheVariants.{Sum, Product, Count, Max, Min}
 use Rattle.extremes.specs.Inner.Words.{empty_word, furthest_word, nearest_word, contributions}
 use Rattle.evaluate.specs.declared.Said.{Said}
 use Rattle.evaluate.specs.declared.Said.TheVariants.{Silent, Conflict, Forced}

@@ -2,8 +2,8 @@
 use Rattle.std.specs.Prelude.{◌≡◌, Bool, List, [], ◌∷◌, ℕ, ◌+◌, ◌-◌, ◌*◌, ◌/◌, ◌≤◌, ◌<◌, length}
 use Rattle.numbers.specs.Words.{half, top}
 use Rattle.area.specs.Layout.{value_at, weight_in, literal_in}
-use Rattle.extremes.specs.declared.Kind.{Kind}
-use Rattle.extremes.specs.declared.Kind.TheVariants.{Sum, Product, Count, Max, Min}
+use Rattle.kinds.specs.declared.Kind.{Kind}
+use Rattle.kinds.specs.declared.Kind.TheVariants.{Sum, Product, Count, Max, Min}
 use Rattle.extremes.specs.declared.EntryWords.{EntryWords}
 use Rattle.extremes.specs.Inner.Words.{combined, contributions}
 

@@ -3,18 +3,12 @@
 use Rattle.std.specs.Prelude.{◌≡◌, Bool, true, false, cond, List, [], ◌∷◌, ℕ, ◌+◌, ◌-◌, ◌*◌, ◌/◌, ◌%◌, min, max, eqb}
 use Rattle.numbers.specs.Words.{half, word as word_of}
 use Rattle.meaning.specs.Meaning as m
-use Rattle.extremes.specs.declared.Kind.{Kind}
-use Rattle.extremes.specs.declared.Kind.TheVariants.{Sum, Product, Count, Max, Min}
+use Rattle.kinds.specs.declared.Kind.{Kind}
+use Rattle.kinds.specs.declared.Kind.TheVariants.{Sum, Product, Count, Max, Min}
+pub use Rattle.kinds.specs.Kinds.{meant}
 use Rattle.extremes.specs.declared.Extremes.{Extremes}
 
 -- ---- the kinds
-
-abbrev pub meant : Kind → m.Kind
-meant Sum = m.sum
-meant Product = m.product
-meant Count = m.count
-meant Max = m.maximum
-meant Min = m.minimum
 
 -- the value over no weight
 abbrev pub empty_word : Kind → ℕ

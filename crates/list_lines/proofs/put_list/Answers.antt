@@ -1,14 +1,14 @@
--- A refusal has its line; else the name, and the front of the list that the answer says.
-use borrow.Author.Tests.{eq-eqb, ne_eqb}
-use Rattle.pages.proofs.Laws.{then}
-use Rattle.list_lines.proofs.Lists.{front_numbers}
+-- The name, and the front of the list that the answer says.
+use mathlib.Core.Path.{ap, ◌∙◌}
+use Prim.Native.Nat.{ℕ}
+use lib.ListN.{take}
+use Rattle.answer_lines.specs.Lines.{numbers}
+use Rattle.pages.proofs.Laws.{then, puts_as}
+use Rattle.list_lines.proofs.Lists.{front}
 use Rattle.list_lines.proofs.put_list.Goals as goal
 
-pub returns-then-answer-ne0 : goal.returns-then-answer-ne0
-returns-then-answer-ne0 c = rw (ne_eqb c.args.answer.code 0 c.if-answer-ne0.true) c.put_pair.ensures
-
-pub returns : goal.returns
-returns c =
-    let a = c.args in
-    let listed = front_numbers a.list.now a.answer.value c.listed_of-n.ensures.1 c.put_numbers-end.ensures in
-    rw (eq-eqb a.answer.code 0 c.if-answer-ne0.false) (then (then c.put_bytes-word.ensures listed) c.put_bytes.ensures)
+pub returns-in-Ok : goal.returns-in-Ok
+returns-in-Ok c =
+    let list = c.args.list.now in
+    let listed = puts_as (ap (λ (n : ℕ). numbers (take n list)) c.listed_of.ensures.1 ∙ ap numbers (front c.in-Ok.value list)) c.put_numbers.ensures in
+    rw c.in-Ok.is (then (then c.put_bytes.ensures listed) c.put_bytes-in-Ok.ensures)

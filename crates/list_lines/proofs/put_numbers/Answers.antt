@@ -1,15 +1,18 @@
--- One number more, behind the first i; at the end the whole list.
+-- One number more, behind those before it; at the end the whole list.
 use borrow.Author.Rules.{rules}
-use native.Mathlib.Omega.{arith}
-use Rattle.list_lines.proofs.Lists.{no_numbers, number_more, all_numbers}
+use mathlib.Core.Path.{ap}
+use lib.Seq.{take_all}
+use Rattle.answer_lines.specs.Lines.{numbers}
+use Rattle.pages.proofs.Laws.{puts_as}
+use Rattle.list_lines.proofs.Lists.{no_numbers, number_more}
 use Rattle.list_lines.proofs.put_numbers.Goals as goal
 
-pub loop-i-init : goal.loop-i-init
-loop-i-init c = (omega arith, no_numbers c.args.list.now c.args.page.now c.args.at)
+pub loop-number-init : goal.loop-number-init
+loop-number-init c = no_numbers c.args.list.now c.args.page.now
 
-pub loop-i-preserved : goal.loop-i-preserved
-loop-i-preserved c =
-    (omega arith, number_more c.args.list.now c.loop-i.i c.loop-i-test.true (search rules) c.loop-i.invariant.1 c.put_named-place.ensures)
+pub loop-number-preserved : goal.loop-number-preserved
+loop-number-preserved c =
+    number_more c.args.list.now c.loop-number.number-index c.loop-number-test.true (search rules) c.loop-number.invariant c.put_named.ensures
 
 pub returns : goal.returns
-returns c = all_numbers c.args.list.now c.loop-i-test.false c.loop-i.invariant.1
+returns c = puts_as (ap numbers (take_all c.loop-number.number-index c.args.list.now c.loop-number-test.false)) c.loop-number.invariant

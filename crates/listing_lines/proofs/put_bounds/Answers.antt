@@ -1,4 +1,4 @@
--- The bounds of one sentence more, behind those of the first k.
+-- The bounds of one sentence more, behind those of the first.
 use native.Mathlib.Omega.{arith}
 use mathlib.Core.Path.{sym, subst}
 use Rattle.types.specs.Limits.{document, Fitting}
@@ -11,19 +11,17 @@ use Rattle.listing_lines.proofs.Loops.{no_bounds, bound_more}
 use Rattle.load.proofs.Base.{base_fits}
 use Rattle.listing_lines.proofs.put_bounds.Goals as goal
 
-pub loop-k-init : goal.loop-k-init
-loop-k-init c = (omega arith, no_bounds (area_state document c.args.area.now) c.args.page.now c.args.at)
+pub loop-s-init : goal.loop-s-init
+loop-s-init c = no_bounds (area_state document c.args.area.now) c.args.page.now
 
-pub bounds_whole-b-requires : goal.bounds_whole-b-requires
-bounds_whole-b-requires c =
+pub bounds_whole-answer-requires : goal.bounds_whole-answer-requires
+bounds_whole-answer-requires c =
     subst (λ (x : Limits). Fitting x × Whole x c.args.area.now (counted c.args.counters)) (sym c.document.ensures) (base_fits, c.requires)
 
-pub loop-k-preserved : goal.loop-k-preserved
-loop-k-preserved c =
-    let b = c.bounds_whole-b in (
-      omega arith,
-      bound_more c.args.area.now c.loop-k.k b.result c.document.ensures b.ensures c.loop-k.invariant.1 c.put_bound-place.ensures,
-    )
+pub loop-s-preserved : goal.loop-s-preserved
+loop-s-preserved c =
+    let b = c.bounds_whole-answer in
+    bound_more c.args.area.now c.loop-s.s b.result c.document.ensures b.ensures c.loop-s.invariant c.put_bound.ensures
 
 pub returns : goal.returns
-returns c = counted_up (bound_lines (area_state document c.args.area.now)) (omega (arith, c.loop-k.invariant.0)) c.loop-k.invariant.1
+returns c = counted_up (bound_lines (area_state document c.args.area.now)) (omega arith) c.loop-s.invariant

@@ -1,13 +1,9 @@
--- The bounds of the first k sentences are on the page.
-use Rattle.std.proofs.Common.{◌-◌, ◌≤◌}
+-- The bounds of the first sentences are on the page.
 use Rattle.types.specs.Limits.{document}
 use Rattle.calls.specs.Calls.{area_state}
-use Rattle.pages.specs.Page.{Writes}
+use Rattle.pages.specs.Page.{Puts}
 use Rattle.listing_lines.specs.Lines.{bound_lines}
 use Rattle.listing_lines.proofs.put_bounds.Given as goal
 
-abbrev pub invariant-loop-k : goal.invariant-loop-k
-invariant-loop-k l = (l.k ≤ l.sentences) × Writes l.initial.page l.fn.at l.page l.place (bound_lines (area_state document l.area) l.k)
-
-abbrev pub decreases-loop-k : goal.decreases-loop-k
-decreases-loop-k l = l.sentences - l.k
+abbrev pub invariant-loop-s : goal.invariant-loop-s
+invariant-loop-s l = Puts l.fn.page l.page (bound_lines (area_state document l.area) l.s)

@@ -1,13 +1,19 @@
 -- The negated causes of a stored sentence, and a list that they are written into.
-use Rattle.std.specs.Prelude.{List, ◌++◌, map, ℕ, ◌+◌, ℤ, neg_ℤ, length, take, drop}
+use Rattle.std.specs.Prelude.{◌≡◌, List, ◌∷◌, ◌++◌, map, ℕ, ◌+◌, ℤ, neg_ℤ, length, take, drop, Option, MatchOption}
 use Rattle.meaning.specs.Merge.{scope}
-use Rattle.book.specs.Rows.{causes}
+use Rattle.book.specs.Rows.{pick, causes}
 use Rattle.area.specs.Layout.{rule_at}
 use Rattle.causes.specs.Inner.Causes.{before}
 
 -- of the sentence at b, of n atoms and S sentences, over the first `limit` rows
 abbrev pub negations : List ℕ → ℕ → ℕ → ℕ → ℕ → List ℤ
 negations w n S b limit = map neg_ℤ (causes (before w n limit) (scope (rule_at w n S b)))
+
+-- atom a's literal is not among the first `limit` rows, or it is, and z is its negation
+abbrev pub NegationAt : List ℕ → ℕ → ℕ → ℕ → Option ℤ → Type 0
+NegationAt w n a limit r =
+    MatchOption r ((rest : List ℤ) → pick (before w n limit) a rest ≡ rest)
+    (λ z. (rest : List ℤ) → map neg_ℤ (pick (before w n limit) a rest) ≡ z ∷ map neg_ℤ rest)
 
 -- a list with these numbers in place of its own from `start` on
 abbrev pub overwritten : List ℤ → ℕ → List ℤ → List ℤ

@@ -4,9 +4,9 @@ use Rattle.std.specs.Prelude.{◌≡◌, not, List, ℕ, ◌+◌, ◌*◌, ◌<�
 use Rattle.types.specs.declared.Limits.{Limits}
 use Rattle.types.specs.Limits.{Fitting}
 use Rattle.numbers.specs.Words.{unbias}
-use Rattle.meaning.specs.Meaning.{mixes}
+use Rattle.meaning.specs.Meaning.{Kind, mixes}
 use Rattle.meaning.specs.Merge.{merge, rule_of}
-use Rattle.area.specs.Layout.{word, record_at, before_at, written_at, merged_at, kind_of, entries_of, entry_words, rule_at}
+use Rattle.area.specs.Layout.{word, record_at, before_at, written_at, merged_at, entries_of, entry_words, rule_at}
 use Rattle.theory_check.specs.Theory.{SentenceOk}
 use Rattle.columns.specs.Columns.{Written, paired, written_as, sentence_of}
 use Rattle.columns.specs.Indexed.{Passes}
@@ -15,30 +15,19 @@ use Rattle.gather.specs.declared.Merged.{Merged}
 
 -- ---- a set merged into the words from `at` on
 
-pub record MergeAsked (w : List ℕ) (at kind : ℕ) (ws ls : List ℤ) : Type 0 where
+pub record MergeAsked (w : List ℕ) (at : ℕ) (kind : Kind) (ws ls : List ℤ) : Type 0 where
   pub room : at + 2 * length ws ≤ length w
   pub mergeable : (part : List ℕ) → length part ≡ 2 * length ws → Mergeable part kind ws ls
 
-pub record MergedAt (w w' : List ℕ) (at kind : ℕ) (ws ls : List ℤ) (r : Merged) : Type 0 where
+pub record MergedAt (w w' : List ℕ) (at : ℕ) (kind : Kind) (ws ls : List ℤ) (r : Merged) : Type 0 where
   pub size : length w' ≡ length w
   pub count : r.count ≤ length ws
-  pub entries : entries_of (entry_words w' at r.count) ≡ (merge (kind_of kind) (paired ws ls)).entries
+  pub entries : entries_of (entry_words w' at r.count) ≡ (merge kind (paired ws ls)).entries
   pub rest : (i : ℕ) → 2 * r.count ≤ i → i < 2 * length ws → word w' (at + i) ≡ 0
-  pub constant : T (mixes (kind_of kind)) → unbias r.constant ≡ (merge (kind_of kind) (paired ws ls)).constant
-  pub no_constant : T (not (mixes (kind_of kind))) → r.constant ≡ 0
+  pub constant : T (mixes kind) → unbias r.constant ≡ (merge kind (paired ws ls)).constant
+  pub no_constant : T (not (mixes kind)) → r.constant ≡ 0
   pub below : (i : ℕ) → i < at → word w' i ≡ word w i
   pub above : (i : ℕ) → at + 2 * length ws ≤ i → word w' i ≡ word w i
-
--- ---- four words
-
-pub record FourPut (w w' : List ℕ) (at a b c d : ℕ) : Type 0 where
-  pub size : length w' ≡ length w
-  pub first : word w' at ≡ a
-  pub second : word w' (at + 1) ≡ b
-  pub third : word w' (at + 2) ≡ c
-  pub fourth : word w' (at + 3) ≡ d
-  pub below : (i : ℕ) → i < at → word w' i ≡ word w i
-  pub above : (i : ℕ) → at + 4 ≤ i → word w' i ≡ word w i
 
 -- ---- sentence s of S, with `before` entries before its own
 

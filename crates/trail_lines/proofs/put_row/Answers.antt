@@ -8,6 +8,6 @@ pub returns : goal.returns
 returns c =
     let a = c.args in
     let r = c.ranges in
-    let first = named_put (bytes "t ") a.literal r.literal c.put_named-first.ensures in
-    let second = then_named (bytes " ") a.level first (named_put (bytes " ") a.level r.level c.put_named-second.ensures) in
-    then (then_named (bytes " ") a.reason second (named_put (bytes " ") a.reason r.reason c.put_named-third.ensures)) c.put_bytes.ensures
+    let first = named_put (bytes "t ") a.literal r.literal c.put_named.ensures in
+    let second = then_named (bytes " ") a.level first (named_put (bytes " ") a.level r.level c.put_named-2.ensures) in
+    then (then_named (bytes " ") a.reason second (named_put (bytes " ") a.reason r.reason c.put_named-3.ensures)) c.put_bytes.ensures

@@ -7,11 +7,11 @@ use Rattle.trail_lines.proofs.Rows.{no_rows, row_more}
 use Rattle.trail_lines.proofs.put_rows.Goals as goal
 
 pub loop-row-init : goal.loop-row-init
-loop-row-init c = (omega arith, no_rows c.args.list.now c.args.page.now c.args.at)
+loop-row-init c = no_rows c.args.list.now c.args.page.now
 
 pub loop-row-preserved : goal.loop-row-preserved
 loop-row-preserved c =
-    (omega arith, row_more c.args.list.now c.loop-row.row (search rules) (search rules) (search rules) c.loop-row.invariant.1 c.put_row-place.ensures)
+    row_more c.args.list.now c.loop-row.row (search rules) (search rules) (search rules) c.loop-row.invariant c.put_row.ensures
 
 pub returns : goal.returns
-returns c = counted_up (row_lines c.args.list.now) (omega (arith, c.loop-row.invariant.0)) c.loop-row.invariant.1
+returns c = counted_up (row_lines c.args.list.now) (omega arith) c.loop-row.invariant

@@ -13,8 +13,13 @@ ConstantOk count written x = Near (unbias x) (weight_limit * written)
 ConstantOk maximum written x = x ≡ 0
 ConstantOk minimum written x = x ≡ 0
 
--- r is a product with one weight more, or 0 where that passes 10^18; the other kinds have no product
-pub record Grown (kind product weight r : ℕ) : Type 0 where
-  pub is : kind ≡ 1 → 1 ≤ r → r ≡ product * (weight - half)
-  pub high : r ≤ bound_limit
-  pub past : r ≡ 0 → (kind ≡ 1) × (bound_limit < product * (weight - half))
+-- `next` is a product with one weight more; the other kinds have no product
+pub record Grown (kind : Kind) (so_far weight next : ℕ) : Type 0 where
+  pub is : kind ≡ product → next ≡ so_far * (weight - half)
+  pub low : 1 ≤ next
+  pub high : next ≤ bound_limit
+
+-- with one weight more a product passes 10^18
+pub record Past (kind : Kind) (so_far weight : ℕ) : Type 0 where
+  pub is : kind ≡ product
+  pub past : bound_limit < so_far * (weight - half)
