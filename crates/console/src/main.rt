@@ -172,8 +172,12 @@ impl Desk {
             OfNumber::Conflict => {
                 let mut list = [0i64; LIST];
                 let sentence = Sentence(number);
-                let answer =
-                    dalelead::explain_conflict(&self.area, self.counters, sentence, &mut list);
+                let answer = dalelead::explain_conflict(
+                    &self.area,
+                    self.counters,
+                    sentence,
+                    &mut list,
+                );
                 console_answers::answer_list(b"conflict-why", answer, &list);
             }
         }

@@ -70,7 +70,10 @@ fn show_propagate(rt: &impl Print, area: &mut [u64], held: &mut Counters) -> io:
         Ok(stop) => (0, stop.sentence.map_or(0, |k| k.0), stop.count),
         Err(refusal) => (refusal.code(), 0, 0),
     };
-    println!(rt; "propagate {code} {sentence} {count} {} {}", held.length, held.level.0)
+    println!(rt;
+        "propagate {code} {sentence} {count} {} {}",
+        held.length, held.level.0
+    )
 }
 
 fn show_search(
@@ -88,7 +91,10 @@ fn show_search(
         ),
         Err(refusal) => (refusal.code(), 0, 0, 0),
     };
-    println!(rt; "search {code} {sentence} {count} {gone} {} {}", held.length, held.level.0)
+    println!(rt;
+        "search {code} {sentence} {count} {gone} {} {}",
+        held.length, held.level.0
+    )
 }
 
 fn show_load(

@@ -17,12 +17,7 @@ fn give_all(area: &mut [u64], literals: &[i64]) -> Counters {
 }
 
 // What a list call answers: its code, its value, and the list.
-fn show(
-    rt: &impl Print,
-    name: &str,
-    answer: Result<u64, Refusal>,
-    list: &[i64],
-) -> io::Result<()> {
+fn show(rt: &impl Print, name: &str, answer: Result<u64, Refusal>, list: &[i64]) -> io::Result<()> {
     match answer {
         Ok(length) => {
             print!(rt; "{name} 0 {length}")?;
