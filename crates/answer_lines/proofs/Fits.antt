@@ -1,5 +1,4 @@
 -- No line is longer than the page that it is put on, whatever the numbers are.
-use mathlib.Core.Path.{◌≡◌, ap}
 use mathlib.Core.Bool.{Bool, true, false, cond}
 use mathlib.Core.List.{List, [], ◌∷◌, ◌++◌}
 use Prim.Native.Nat.{ℕ, zero, suc, ◌+◌, ◌*◌, ◌/◌, ◌≤◌}
@@ -16,9 +15,6 @@ use Rattle.propagate.specs.declared.Propagated.{Propagated}
 use Rattle.propagate.specs.declared.Propagated.TheVariants.{Still, Conflict}
 use Rattle.calls.specs.declared.Refusal.{Refusal}
 use Rattle.calls.specs.Refusals.{code_of, value_of}
-use Rattle.pages.specs.declared.Page.{Page}
-use Rattle.pages.specs.Page.{Puts}
-use Rattle.pages.proofs.Laws.{on_page}
 use Rattle.pages.proofs.Lengths.{decimal_short, signed_short}
 use Rattle.answer_lines.specs.Lines.{refused_line, plan_line, done_line, propagated_line, bound, bounds_line, numbers, list_line, row_line, row_lines, trail_lines, line_bytes, list_bytes, trail_bytes}
 
@@ -80,12 +76,3 @@ trail_fits p list =
     (trail_bytes (length list))
     (simp length-append (omega (arith, rows_fit list k, length-take p.value list, decimal_short (p.value / 3))))
     (omega (arith, refused_fits p.code p.value))
-
--- ---- so the answer is a place on a page of that size
-
-module _ {a b : Page} (p : Returned) (list : List ℤ) (k : ℕ) (l : length list ≡ k) (start : a.end ≡ 0) where
-  pub list_on_page : (name : List ℕ) → length name ≤ 49 → length a.bytes.now ≡ list_bytes k → Puts a b (list_line name p list) → b.end ≤ length b.bytes.now
-  list_on_page name h e w = on_page start w (omega (arith, list_fits name p list h))
-
-  pub trail_on_page : length a.bytes.now ≡ trail_bytes k → Puts a b (trail_lines p list) → b.end ≤ length b.bytes.now
-  trail_on_page e w = on_page start w (omega (arith, trail_fits p list, ap (λ (n : ℕ). n / 3) l))

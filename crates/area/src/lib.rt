@@ -4,10 +4,28 @@
 
 ghost use Rattle.std.specs.Prelude.{◌≡◌, ℕ, ◌+◌, ◌-◌, ◌*◌, ◌≤◌, ◌<◌, ◌%◌, length, set};
 ghost use Rattle.decide.specs.Inner.Tells.{Tells};
-ghost use Rattle.area.specs.Layout.{word, atoms_of, sentences_of, length_of, level_of, value_at, literal_at, cause_at, place_at, row_at, head_at, tag_at, pending_at, kind_of, kind_at, upper_at, bound_at, constant_at, least_at, greatest_at, before_at, written_at, merged_at, entry_at, weight_at, entry_literal_at, weight_in, literal_in};
+ghost use Rattle.area.specs.Layout.{word, atoms_of, sentences_of, length_of, level_of, value_at, literal_at, cause_at, place_at, row_at, record_at, head_at, tag_at, pending_at, kind_of, kind_at, upper_at, bound_at, constant_at, least_at, greatest_at, before_at, written_at, merged_at, entry_at, weight_at, entry_literal_at, weight_in, literal_in};
 ghost use Rattle.kinds.specs.Kinds.{meant};
 
 use kinds::Kind;
+
+// How many atoms and sentences an area has, which word 0 has room for. Where the parts of the area stand follows from them.
+#[derive(Clone, Copy, Debug, PartialEq, Eq)]
+pub struct Sizes {
+    pub atoms: usize,
+    pub sentences: usize,
+    ghost room: { (atoms < 65536) × (sentences < 65536) },
+}
+
+impl Sizes {
+    // Where the record of sentence s, from 0, starts, and behind the last one where the entries do.
+    pub fn record_at(self, s: usize) -> usize
+        requires { s ≤ self.sentences }
+        ensures { result ≡ record_at self.atoms s }
+    {
+        4 * self.atoms + 8 * s
+    }
+}
 
 // Whether the words from one on, up to another, are unused.
 pub fn blank(area: &[u64], from: usize, to: usize) -> bool
@@ -38,6 +56,17 @@ pub fn sentences_of(area: &[u64]) -> usize
     ensures { result ≡ sentences_of area.now }
 {
     (area[0] / 65536 % 65536) as usize
+}
+
+pub fn sizes_of(area: &[u64]) -> Sizes
+    requires { 1 ≤ length area.now }
+    ensures atoms { result.atoms ≡ atoms_of area.now }
+    ensures sentences { result.sentences ≡ sentences_of area.now }
+{
+    Sizes {
+        atoms: atoms_of(area),
+        sentences: sentences_of(area),
+    }
 }
 
 // the rows on the trail
@@ -191,26 +220,26 @@ pub fn merged_at(area: &[u64], base: usize) -> usize
 }
 
 // where the words of its entries start, with `count` sentences in all
-pub fn entry_at(area: &[u64], n: usize, sentences: usize, base: usize) -> usize
-    requires { (base + 8 ≤ length area.now) × (entry_at area.now n sentences base ≤ length area.now) }
-    ensures { result ≡ entry_at area.now n sentences base }
+pub fn entry_at(area: &[u64], sizes: Sizes, base: usize) -> usize
+    requires { (base + 8 ≤ length area.now) × (entry_at area.now sizes.atoms sizes.sentences base ≤ length area.now) }
+    ensures { result ≡ entry_at area.now sizes.atoms sizes.sentences base }
 {
-    4 * n + 8 * sentences + 2 * area[base + 6] as usize
+    sizes.record_at(sizes.sentences) + 2 * area[base + 6] as usize
 }
 
 // of its entry j, from 0
-pub fn weight_at(area: &[u64], n: usize, sentences: usize, base: usize, j: usize) -> u64
-    requires { (base + 8 ≤ length area.now) × (entry_at area.now n sentences base + 2 * j + 1 < length area.now) }
-    ensures { result ≡ weight_at area.now n sentences base j }
+pub fn weight_at(area: &[u64], sizes: Sizes, base: usize, j: usize) -> u64
+    requires { (base + 8 ≤ length area.now) × (entry_at area.now sizes.atoms sizes.sentences base + 2 * j + 1 < length area.now) }
+    ensures { result ≡ weight_at area.now sizes.atoms sizes.sentences base j }
 {
-    area[4 * n + 8 * sentences + 2 * area[base + 6] as usize + 2 * j]
+    weight_in(area, entry_at(area, sizes, base), j)
 }
 
-pub fn entry_literal_at(area: &[u64], n: usize, sentences: usize, base: usize, j: usize) -> u64
-    requires { (base + 8 ≤ length area.now) × (entry_at area.now n sentences base + 2 * j + 1 < length area.now) }
-    ensures { result ≡ entry_literal_at area.now n sentences base j }
+pub fn entry_literal_at(area: &[u64], sizes: Sizes, base: usize, j: usize) -> u64
+    requires { (base + 8 ≤ length area.now) × (entry_at area.now sizes.atoms sizes.sentences base + 2 * j + 1 < length area.now) }
+    ensures { result ≡ entry_literal_at area.now sizes.atoms sizes.sentences base j }
 {
-    area[4 * n + 8 * sentences + 2 * area[base + 6] as usize + 2 * j + 1]
+    literal_in(area, entry_at(area, sizes, base), j)
 }
 
 // of entry j of those whose words start at `start`, for loops that find the start once

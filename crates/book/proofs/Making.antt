@@ -28,6 +28,11 @@ ended_taken : (k n : ℕ) → (returned_by (ended k n)).code ≡ 0
 ended_taken zero n = refl
 ended_taken (suc k) n = refl
 
+-- where propagate stops, its value is how many rows came on
+pub ended_value : (k n : ℕ) → (returned_by (ended k n)).value ≡ n
+ended_value zero n = refl
+ended_value (suc k) n = refl
+
 not_true : (b : Bool) → T (not b) → b ≡ false
 not_true true t = absurd t
 not_true false t = refl

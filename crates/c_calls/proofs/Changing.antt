@@ -15,6 +15,7 @@ use Rattle.meaning.specs.Meaning.{atom}
 use Rattle.book.specs.Rows.{Row, any}
 use Rattle.book.specs.Table.{Step, give, open_level, take_back, propagate, search, a_step, Answer, refused, Returned, returned_by, State, propagated, no_atom, on_trail, Outcome, unchanged, ended, put_on, step_effect, reply}
 use Rattle.book.specs.Book.{Counters}
+use Rattle.book.proofs.Making.{ended_value}
 use Rattle.area.specs.Layout.{atoms_of, length_of, level_of, rows_of}
 use Rattle.area.specs.Whole.{Whole}
 use Rattle.whole.specs.Parts.{counters_with}
@@ -254,10 +255,6 @@ three_words c p = c.length_is ∷ c.level_is ∷ p.value ∷ []
 
 abbrev pub four_words : Counters → Returned → List ℕ
 four_words c p = c.length_is ∷ c.level_is ∷ p.value ∷ p.gone ∷ []
-
-ended_value : (k n : ℕ) → (returned_by (ended k n)).value ≡ n
-ended_value zero n = refl
-ended_value (suc k) n = refl
 
 -- propagate's value is how many rows came on
 pub counted_words : (lim : Limits) (w : List ℕ)

@@ -13,7 +13,7 @@ use Rattle.book.specs.Book.{Counters, judged_all}
 use Rattle.area.specs.Layout.{atoms_of, sentences_of, length_of, record_at, rule_at, theory_of}
 use Rattle.area.specs.Whole.{Whole}
 use Rattle.trail_check.proofs.Few.{few_places}
-use Rattle.whole.proofs.Gives.{numbered_rule, ready}
+use Rattle.whole.proofs.Gives.{numbered_rule}
 use Rattle.causes.specs.Inner.Causes.{TrailAsked, CausesAsked}
 
 module _ (lim : Limits) (w : List ℕ) (c : Counters) (fit : Fitting lim) (h : Whole lim w c) where
@@ -29,8 +29,8 @@ module _ (lim : Limits) (w : List ℕ) (c : Counters) (fit : Fitting lim) (h : W
     values = h.trail_right.values;
   }
 
-  pub causes_asked : (s limit : ℕ) → s < sentences_of w → limit ≤ length_of w → CausesAsked w (atoms_of w) (sentences_of w) (record_at (atoms_of w) s) limit
-  causes_asked s limit l m = record { sentence = ready lim w c h fit s l; rows = length_of w; trail_asked = trail_asked; few = m }
+  pub causes_asked : (limit : ℕ) → limit ≤ length_of w → CausesAsked w (atoms_of w) limit
+  causes_asked limit m = record { rows = length_of w; trail_asked = trail_asked; few = m }
 
 -- ---- scopes by number
 

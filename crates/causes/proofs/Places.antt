@@ -42,20 +42,20 @@ module _ (w : List ℕ) (n S b : ℕ) (ready : EvaluateReady w n S b) where
   es = (rule_at w n S b).set.entries
 
   merged : length es ≡ merged_at w b
-  merged = entries_length w (entry_at w n S b) (merged_at w b) ready.1.entries
+  merged = entries_length w (entry_at w n S b) (merged_at w b) ready.entries
 
   pub scope_length : length sc ≡ merged_at w b + 1
   scope_length = omega (arith, places_length es, merged)
 
   pub head_at : (i : ℕ) → i ≡ 0 → AtomAt n (get_or sc i 0) (word w b)
-  head_at i e = let r = ready.1.rule in record { is = ap {A = ℕ} (λ j. get_or sc j 0) (sym e); low = r.head_low; high = r.head_high }
+  head_at i e = let r = ready.rule in record { is = ap {A = ℕ} (λ j. get_or sc j 0) (sym e); low = r.head_low; high = r.head_high }
 
   pub entry_within : (i : ℕ) → ¬ (i ≡ 0) → i ≤ merged_at w b → AtomAt n (get_or sc i 0) (word w (entry_at w n S b + 2 * (i - 1) + 1) / 2)
   entry_within zero d h = absurd (d refl)
   entry_within (suc i) d h =
-      let r = ready.1.rule in
+      let r = ready.rule in
       let x = place_within n (rule_at w n S b).head (rule_at w n S b).kind (rule_at w n S b).written es i (omega (arith, merged)) r.entries in
-      let e = scope_entry w n S b ready.1.entries (suc i) (omega arith) h in
+      let e = scope_entry w n S b ready.entries (suc i) (omega arith) h in
       record { is = sym e; low = omega (arith, x.0, e); high = omega (arith, x.1, e) }
 
 -- ---- the causes from a place on

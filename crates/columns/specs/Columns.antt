@@ -5,6 +5,7 @@ use Rattle.decide.specs.Below.{sum_first}
 use Rattle.meaning.specs.Meaning.{Entry, Sentence}
 use Rattle.area.specs.Layout.{kind_of, side_of}
 use Rattle.columns.specs.declared.Columns as lent
+use Rattle.columns.specs.declared.SentenceColumns as lent_sentence
 
 -- one number a sentence in the first five columns, one an entry in the last two
 pub record Columns : Type 0 where
@@ -40,6 +41,10 @@ paired (w ∷ ws) (l ∷ ls) = record { weight = w; literal = l } ∷ paired ws 
 
 abbrev pub written_as : ℕ → ℕ → ℕ → ℤ → List ℤ → List ℤ → Written
 written_as head kind side bound weights literals = record { head = head; kind = kind; side = side; bound = bound; entries = paired weights literals }
+
+-- the sentence that is lent
+abbrev pub held_sentence : lent_sentence.SentenceColumns → Written
+held_sentence x = written_as x.head x.kind x.side x.bound x.weights.now x.literals.now
 
 -- the part of an entry column that belongs to sentence s, from 0: behind the entries of the sentences before it
 abbrev pub part : Columns → ℕ → List ℤ → List ℤ

@@ -6,6 +6,7 @@ use Rattle.decide.specs.Below.{some_below, product_below}
 use Rattle.meaning.specs.Meaning.{atom, Kind, same, mixes}
 use Rattle.kinds.specs.Kinds.{weight_fits}
 use Rattle.area.specs.Layout.{kind_of}
+use Rattle.columns.specs.declared.SentenceColumns.{SentenceColumns}
 use Rattle.columns.specs.Columns.{Columns, Written}
 use Rattle.columns.specs.Refusals.{unknown, outside, strange, bound_fits, out_of_range, own_head, mixed, is_product, too_great}
 
@@ -82,6 +83,10 @@ column_code lim n head kind side bound weights literals =
     first_code (unknown_shape lim.each kind side (length literals)) (outside n head || no_literal n literals)
     (unfit_weights (kind_of kind) weights || not (bound_fits bound)) (head_inside head literals) (not (mixes (kind_of kind)) && negated literals)
     (is_product kind && product_above weights)
+
+-- of the sentence that is lent
+abbrev pub lent_code : Limits → ℕ → SentenceColumns → ℕ
+lent_code lim n x = column_code lim n x.head x.kind x.side x.bound x.weights.now x.literals.now
 
 -- none of 3 to 8 applies to the sentence
 pub record Passes (lim : Limits) (n : ℕ) (x : Written) : Type 0 where

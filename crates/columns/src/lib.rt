@@ -19,6 +19,18 @@ pub struct Columns<'a> {
     pub literals: &'a [i64],
 }
 
+// A sentence as written: its numbers, and the parts of the two entry columns that are its own.
+#[derive(Clone, Copy)]
+// Stays: a kind and a side by number, as load's columns have them; the check makes the kind of the number.
+pub struct SentenceColumns<'a> {
+    pub head: u64,
+    pub kind: u64,
+    pub side: u64,
+    pub bound: i64,
+    pub weights: &'a [i64],
+    pub literals: &'a [i64],
+}
+
 // What a sentence is refused for.
 #[derive(Clone, Copy, Debug, PartialEq, Eq)]
 pub enum Fault {
@@ -49,6 +61,7 @@ pub enum Refusal {
 // Document 01's number of a refusal, with the sentence that it is about, 0 for none.
 #[derive(Clone, Copy, Debug, PartialEq, Eq)]
 pub struct Answer {
+    // Stays: document 01's numbers, which C and the console are told, with 0 for no sentence.
     pub code: u64,
     pub sentence: Sentence,
 }

@@ -30,15 +30,15 @@ module _ {lim : Limits} {w : List ℕ} {c : Counters} (fit : Fitting lim) (h : W
   abbrev S : ℕ
   S = sentences_of w
 
+  pub conflict_asked : CausesAsked w n (length_of w)
+  conflict_asked = causes_asked lim w c fit h (length_of w) (omega arith)
+
   module _ (k : ℕ) (low : 1 ≤ k) (high : k ≤ S) where
     number : k ≡ suc (k - 1)
     number = omega arith
 
     inside : k - 1 < S
     inside = omega arith
-
-    pub conflict_asked : CausesAsked w n S (record_at n (k - 1)) (length_of w)
-    conflict_asked = causes_asked lim w c fit h (k - 1) (length_of w) inside (omega arith)
 
     pub quiet_refused : (old : List ℤ) → ConflictIs w n S (record_at n (k - 1)) false
         → Listing lim w (explain_conflict k) old old (Err NoConflict)

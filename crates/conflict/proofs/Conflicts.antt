@@ -10,11 +10,11 @@ use Rattle.meaning.specs.Meaning as m
 use Rattle.book.specs.Rows.{trail}
 use Rattle.book.specs.Table.{Judged, no_sentence_judged, is_conflict, in_conflict}
 use Rattle.book.specs.Book.{Counters}
-use Rattle.area.specs.Layout.{atoms_of, sentences_of, rows_from, rows_of, record_at}
+use Rattle.area.specs.Layout.{atoms_of, sentences_of, rows_from, rows_of, record_at, least_at, greatest_at}
 use Rattle.area.specs.Whole.{Whole}
 use Rattle.evaluate.specs.declared.Said.{Said}
 use Rattle.evaluate.specs.declared.Said.TheVariants.{Silent, Conflict, Forced}
-use Rattle.extremes.specs.Inner.Stored.{Shows}
+use Rattle.extremes.specs.Inner.Stored.{Shows, EvaluateReady, ExtremesAre}
 use Rattle.evaluate.specs.Inner.Sentence.{SaidIs, said_of}
 use Rattle.trail_check.proofs.Shown.{shows}
 use Rattle.whole.proofs.Join.{parts}
@@ -22,7 +22,7 @@ use Rattle.whole.proofs.Gives.{numbered_rule}
 use Rattle.find.specs.Inner.Asked.{FindReady}
 use Rattle.find.proofs.Sentences.{ready_of, extremes_of}
 use Rattle.calls.specs.Calls.{area_state}
-use Rattle.conflict.specs.Inner.Conflict.{Comparable, ConflictIs}
+use Rattle.conflict.specs.Inner.Conflict.{ConflictIs}
 
 -- ---- by what the sentence says
 
@@ -45,8 +45,14 @@ module _ {lim : Limits} {w : List ℕ} {c : Counters} (fit : Fitting lim) (h : W
   asked : FindReady w (atoms_of w) (sentences_of w)
   asked = record { lim = lim; len = c.length_is; level = c.level_is; searchable = record { fitting = fit; whole = h; atoms = refl; sentences = refl } }
 
-  pub comparable : Comparable w (atoms_of w) (sentences_of w) (record_at (atoms_of w) s)
-  comparable = record { sentence = ready_of asked inside; extremes = extremes_of asked inside refl refl }
+  pub ready_at : EvaluateReady w (atoms_of w) (sentences_of w) (record_at (atoms_of w) s)
+  ready_at = ready_of asked inside
+
+  abbrev b : ℕ
+  b = record_at (atoms_of w) s
+
+  pub stored_at : ExtremesAre w (atoms_of w) (sentences_of w) b (record { least = least_at w b; greatest = greatest_at w b })
+  stored_at = extremes_of asked inside refl refl
 
   shown : Shows w (atoms_of w) (trail (rows_of w))
   shown =

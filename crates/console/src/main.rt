@@ -2,7 +2,8 @@
 // read. What a line means stands in the crate `console_text`; every answer comes from the library.
 #![tactic(auto)]
 
-ghost use Rattle.std.specs.Prelude.{◌≤◌, length};
+ghost use Rattle.std.specs.Prelude.{◌≡◌, ℕ, ◌≤◌, length, Some};
+ghost use Rattle.console.specs.declared.TheConstants.{LINE};
 
 use columns::{Columns, Refusal};
 use console_answers::{LIST, ROWS};
@@ -229,7 +230,9 @@ impl Desk {
 
     // A line of at most 65,536 bytes.
     fn take_line(&mut self, number: u64, line: &[u8]) {
-        let command = console_text::parse(line);
+        let Some(command) = console_text::parse(line) else {
+            return self.refuse_line(number);
+        };
         if let Some(read) = self.reading {
             return match command {
                 Command::Comment => {}
@@ -239,7 +242,7 @@ impl Desk {
         }
         match command {
             Command::Empty | Command::Comment => {}
-            Command::Wrong | Command::Rule(_) => self.refuse_line(number),
+            Command::Rule(_) => self.refuse_line(number),
             Command::Plan(atoms, sentences) => self.begin_plan(atoms, sentences),
             Command::Bare(name) => self.bare(name),
             Command::Literal(name, literal) => self.of_literal(name, literal),
@@ -250,13 +253,14 @@ impl Desk {
 
 // ---- lines
 
-// What is kept from byte to byte: the number of lines that have ended, and the bytes of the next one so far, one more than the longest
-// has for any longer one.
+// What is kept from byte to byte: the number of lines that have ended, and the bytes of the next one so far: how many they are, `None` where
+// they are too many for a line.
 #[derive(Clone, Copy)]
 struct Lines {
     ended: u64,
     line: [u8; LINE],
-    held: usize,
+    held: Option<usize>,
+    ghost fits: { (n : ℕ) → held ≡ Some n → n ≤ LINE },
 }
 
 impl Lines {
@@ -264,35 +268,36 @@ impl Lines {
         Lines {
             ended: 0,
             line: [0; LINE],
-            held: 0,
+            held: Some(0),
         }
     }
 
     // One line more, and none of the next.
     fn end(&mut self, desk: &mut Desk) {
         self.ended = self.ended.saturating_add(1);
-        if self.held > LINE {
-            desk.refuse_line(self.ended);
-        } else {
-            desk.take_line(self.ended, &self.line[..self.held]);
+        match self.held {
+            Some(held) => desk.take_line(self.ended, &self.line[..held]),
+            None => desk.refuse_line(self.ended),
         }
-        self.held = 0;
+        self.held = Some(0);
     }
 
     fn take(&mut self, desk: &mut Desk, b: u8) {
         if b == b'\n' {
-            self.end(desk);
-        } else if self.held < LINE {
-            self.line[self.held] = b;
-            self.held += 1;
-        } else {
-            self.held = LINE + 1;
+            return self.end(desk);
         }
+        self.held = match self.held {
+            Some(held) if held < LINE => {
+                self.line[held] = b;
+                Some(held + 1)
+            }
+            _ => None,
+        };
     }
 
     // The end: a line without an LF is a line, and where rules are still expected the end is one more line that is none.
     fn finish(&mut self, desk: &mut Desk) {
-        if self.held > 0 {
+        if self.held != Some(0) {
             self.end(desk);
         }
         if desk.reading.is_some() {
@@ -313,6 +318,7 @@ fn main(rt: HostRuntime) {
     let mut input = [0u8; 4096];
     let mut lines = Lines::new();
     let mut desk = Desk::new();
+    // Stays: a `loop` has to be proved to end, and nothing says that an input does.
     for _ in 0..u64::MAX {
         let n = read_some(rt.stdin(), &mut input);
         if n == 0 {

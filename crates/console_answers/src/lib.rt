@@ -1,7 +1,8 @@
 // The console's answers: each is put on a page that is never too short, and written on standard output.
 #![tactic(auto)]
 
-ghost use Rattle.std.specs.Prelude.{◌≤◌, length};
+ghost use Rattle.std.specs.Prelude.{ℕ, ◌≤◌, List, length};
+ghost use Rattle.pages.specs.Page.{Puts};
 
 use calls::{Bounds, Refusal};
 use pages::Page;
@@ -21,62 +22,64 @@ pub const ROWS: usize = 3_072;
 
 const ROWS_PAGE: usize = 50 + ROWS / 3 * 68;
 
-fn write(page: &Page<'_>)
-    requires { page.now.end ≤ length page.now.bytes.now }
+// Writes the line that `put` puts on a page, which has room for it.
+fn write<F: FnOnce(&mut Page<'_>)>(bytes: &mut [u8], put: F)
+    requires callable { F.IsAlwaysCallable put }
+    requires fits { (line : List ℕ) × (length line ≤ length bytes.old) × ((p q : _) → F.post put p tt q → Puts p.now q.now line) }
 {
+    let mut page = Page::new(bytes);
+    put(&mut page);
+    // Stays: the bytes are proved, and `print!` promises nothing of them.
     io::write_all(1, page.text());
 }
 
 pub fn answer_plan(answer: Result<Counters, columns::Refusal>) {
-    let mut bytes = [0u8; LINE_PAGE];
-    let mut page = Page::new(&mut bytes);
-    answer_lines::put_plan(&mut page, answer);
-    write(&page);
+    write(
+        &mut [0; LINE_PAGE],
+        |page| answer_lines::put_plan(page, answer),
+    );
 }
 
 pub fn answer_done(name: &[u8], answer: Result<Counters, Refusal>)
     requires { length name.now ≤ 9 }
 {
-    let mut bytes = [0u8; LINE_PAGE];
-    let mut page = Page::new(&mut bytes);
-    answer_lines::put_done(&mut page, name, answer);
-    write(&page);
+    write(
+        &mut [0; LINE_PAGE],
+        |page| answer_lines::put_done(page, name, answer),
+    );
 }
 
 pub fn answer_propagated(answer: Result<Propagated, Refusal>) {
-    let mut bytes = [0u8; LINE_PAGE];
-    let mut page = Page::new(&mut bytes);
-    answer_lines::put_propagated(&mut page, answer);
-    write(&page);
+    write(
+        &mut [0; LINE_PAGE],
+        |page| answer_lines::put_propagated(page, answer),
+    );
 }
 
 pub fn answer_bounds(answer: Result<Bounds, Refusal>) {
-    let mut bytes = [0u8; LINE_PAGE];
-    let mut page = Page::new(&mut bytes);
-    bound_lines::put_bounds(&mut page, answer);
-    write(&page);
+    write(
+        &mut [0; LINE_PAGE],
+        |page| bound_lines::put_bounds(page, answer),
+    );
 }
 
 pub fn answer_list(name: &[u8], answer: Result<u64, Refusal>, list: &[i64; LIST])
     requires { length name.now ≤ 49 }
 {
-    let mut bytes = [0u8; LIST_PAGE];
-    let mut page = Page::new(&mut bytes);
-    list_lines::put_list(&mut page, name, answer, list);
-    write(&page);
+    write(
+        &mut [0; LIST_PAGE],
+        |page| list_lines::put_list(page, name, answer, list),
+    );
 }
 
 pub fn answer_trail(answer: Result<u64, Refusal>, list: &[i64; ROWS]) {
-    let mut bytes = [0u8; ROWS_PAGE];
-    let mut page = Page::new(&mut bytes);
-    trail_lines::put_trail(&mut page, answer, list);
-    write(&page);
+    write(
+        &mut [0; ROWS_PAGE],
+        |page| trail_lines::put_trail(page, answer, list),
+    );
 }
 
 // A line, by its number, that is none of the commands.
 pub fn answer_wrong(number: u64) {
-    let mut bytes = [0u8; LINE_PAGE];
-    let mut page = Page::new(&mut bytes);
-    page.put_line(b"error ", number);
-    write(&page);
+    write(&mut [0; LINE_PAGE], |page| page.put_line(b"error ", number));
 }

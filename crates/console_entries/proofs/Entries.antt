@@ -1,15 +1,14 @@
 -- Entries, by the next two words.
 use Rattle.std.proofs.Common.{◌≡◌, ◌≢◌, refl, sym, ap, ◌∙◌, ℕ, suc, ◌+◌, ◌≤◌, add-one, arith}
-use Rattle.std.proofs.Common.{List, [], ◌∷◌, length, drop, drop-drop, length-drop, map, false, Bor}
+use Rattle.std.proofs.Common.{List, [], ◌∷◌, length, drop, drop-drop, length-drop, map}
 use Rattle.std.proofs.Math.ListN.{set, drop_of_length-le}
 use Rattle.std.proofs.Math.Seq.{sets, set_out}
-use Rattle.std.specs.Prelude.{ℤ, Option, Some, None, is_some, MatchOption}
+use Rattle.std.specs.Prelude.{ℤ, Some, None}
 use Rattle.meaning.specs.Meaning.{Entry}
 use Rattle.console_entries.specs.Entries.{entries_of, all_entries, entry_count, weights_in, literals_in}
 use Rattle.console_entries.specs.Inner.Split.{SplitsNumber, NoNumber, SplitsEntry, NoEntry}
 use Rattle.console_words.specs.Numbers.{signed_of}
 use Rattle.console_words.specs.Words.{Word, words}
-use Rattle.console_words.specs.Inner.Split.{SplitsWord}
 
 module _ (line : List ℕ) where
   by_words : (ws : List Word) → words line ≡ ws → NoNumber line → NoEntry line
@@ -47,13 +46,6 @@ module _ (line : List ℕ) where
           all_are = ap all_entries both ∙ rw (first.number_is, second.number_is);
         }
 
--- ---- the next word, where there is none
-
-pub no_word : (line : List ℕ) (next : Option (Bor (List ℕ) × Bor (List ℕ))) →
-    MatchOption next (words line ≡ []) (λ s. SplitsWord line s.0.now s.1.now) → false ≡ is_some next → words line ≡ []
-no_word line None h e = h
-no_word line (Some s) h e = cc
-
 -- ---- counting: n entries are passed, and the others stand in the rest
 
 pub record Counted (line : List ℕ) (n : ℕ) (rest : List ℕ) : Type 0 where
@@ -79,8 +71,10 @@ module _ (line : List ℕ) (n : ℕ) (rest : List ℕ) (so_far : Counted line n 
       let size : length (entries_of (words line)) ≡ n = omega (arith, so_far.entries_are, ap length (ap entries_of e)) in
       rw (so_far.all_are ∙ ap all_entries e, size)
 
-  pub not_counted : words rest ≢ [] → NoEntry rest → None ≡ entry_count (words line)
-  not_counted some h = rw (so_far.all_are ∙ h.all_are some)
+  pub not_counted : {w : Word} {ws : List Word} → words rest ≡ w ∷ ws → NoEntry rest → None ≡ entry_count (words line)
+  not_counted next h =
+      let some : words rest ≢ [] = λ e. cc in
+      rw (so_far.all_are ∙ h.all_are some)
 
 -- ---- the words behind the first ones
 

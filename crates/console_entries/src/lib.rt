@@ -30,12 +30,14 @@ pub fn count_entries(line: &[u8]) -> Option<u64>
 {
     let mut n: u64 = 0;
     let mut rest = line;
-    while console_words::split_word(rest).is_some() {
-        let (_, _, behind) = split_entry(rest)?;
+    while let Some((_, _, behind)) = split_entry(rest) {
         n += 1;
         rest = behind;
     }
-    Some(n)
+    match console_words::split_word(rest) {
+        Some(_) => None,
+        None => Some(n),
+    }
 }
 
 // What stands behind the first five words of a line.
@@ -67,6 +69,7 @@ pub fn read_entries(line: &[u8], weights: &mut [i64], literals: &mut [i64], at: 
     let Some(mut rest) = behind_five(line) else {
         return;
     };
+    // Stays: by place, since each column is filled up to its own end, and `zip` stops where the shorter one ends.
     for k in at..weights.len().max(literals.len()) {
         let Some((weight, literal, behind)) = split_entry(rest) else {
             return;

@@ -7,19 +7,19 @@ use Rattle.console_names.specs.declared.OfLiteral.TheVariants.{Give, Why, Origin
 use Rattle.console_names.specs.declared.OfNumber.TheVariants.{Back, Bounds, Conflict}
 use Rattle.console_words.specs.Words.{Word}
 
-unfoldable pub name_of : Word → Name
+unfoldable pub name_of : Word → Option Name
 name_of w =
-    cond (bytes_eq w (codes "plan")) name.Plan
-    (cond (bytes_eq w (codes "rule")) name.Rule
-    (cond (bytes_eq w (codes "give")) (name.Literal Give)
-    (cond (bytes_eq w (codes "open")) (name.Bare Open)
-    (cond (bytes_eq w (codes "propagate")) (name.Bare Propagate)
-    (cond (bytes_eq w (codes "back")) (name.Number Back)
-    (cond (bytes_eq w (codes "bounds")) (name.Number Bounds)
-    (cond (bytes_eq w (codes "why")) (name.Literal Why)
-    (cond (bytes_eq w (codes "conflict")) (name.Number Conflict)
-    (cond (bytes_eq w (codes "origin")) (name.Literal Origin)
-    (cond (bytes_eq w (codes "trail")) (name.Bare Trail) name.Unknown))))))))))
+    cond (bytes_eq w (codes "plan")) (Some name.Plan)
+    (cond (bytes_eq w (codes "rule")) (Some name.Rule)
+    (cond (bytes_eq w (codes "give")) (Some (name.Literal Give))
+    (cond (bytes_eq w (codes "open")) (Some (name.Bare Open))
+    (cond (bytes_eq w (codes "propagate")) (Some (name.Bare Propagate))
+    (cond (bytes_eq w (codes "back")) (Some (name.Number Back))
+    (cond (bytes_eq w (codes "bounds")) (Some (name.Number Bounds))
+    (cond (bytes_eq w (codes "why")) (Some (name.Literal Why))
+    (cond (bytes_eq w (codes "conflict")) (Some (name.Number Conflict))
+    (cond (bytes_eq w (codes "origin")) (Some (name.Literal Origin))
+    (cond (bytes_eq w (codes "trail")) (Some (name.Bare Trail)) None))))))))))
 
 -- by document 01's numbers
 unfoldable pub kind_of : Word → Option ℕ

@@ -34,26 +34,25 @@ pub enum Name {
     Bare(Bare),
     Literal(OfLiteral),
     Number(OfNumber),
-    Unknown,
 }
 
 #[tactic(auto, using(crate::proofs::Names::bytes_read), unfolding(crate::specs::Names::name_of))]
-pub fn read_name(word: &[u8]) -> Name
+pub fn read_name(word: &[u8]) -> Option<Name>
     ensures { result ≡ name_of word.now }
 {
     match word {
-        b"plan" => Name::Plan,
-        b"rule" => Name::Rule,
-        b"give" => Name::Literal(OfLiteral::Give),
-        b"open" => Name::Bare(Bare::Open),
-        b"propagate" => Name::Bare(Bare::Propagate),
-        b"back" => Name::Number(OfNumber::Back),
-        b"bounds" => Name::Number(OfNumber::Bounds),
-        b"why" => Name::Literal(OfLiteral::Why),
-        b"conflict" => Name::Number(OfNumber::Conflict),
-        b"origin" => Name::Literal(OfLiteral::Origin),
-        b"trail" => Name::Bare(Bare::Trail),
-        _ => Name::Unknown,
+        b"plan" => Some(Name::Plan),
+        b"rule" => Some(Name::Rule),
+        b"give" => Some(Name::Literal(OfLiteral::Give)),
+        b"open" => Some(Name::Bare(Bare::Open)),
+        b"propagate" => Some(Name::Bare(Bare::Propagate)),
+        b"back" => Some(Name::Number(OfNumber::Back)),
+        b"bounds" => Some(Name::Number(OfNumber::Bounds)),
+        b"why" => Some(Name::Literal(OfLiteral::Why)),
+        b"conflict" => Some(Name::Number(OfNumber::Conflict)),
+        b"origin" => Some(Name::Literal(OfLiteral::Origin)),
+        b"trail" => Some(Name::Bare(Bare::Trail)),
+        _ => None,
     }
 }
 

@@ -4,7 +4,7 @@ use mathlib.Core.Bool.{Bool, true, false, cond}
 use mathlib.Core.List.{List, [], ◌∷◌}
 use Prim.Native.Nat.{ℕ}
 use lib.ListN.{length, drop}
-use Rattle.std.specs.Prelude.{Option, Some, None, unwrap_or}
+use Rattle.std.specs.Prelude.{Option, Some, None}
 use Rattle.console_names.specs.declared.Name.{Name}
 use Rattle.console_names.specs.declared.Name.TheVariants as name
 use Rattle.console_text.specs.declared.Rule.{Rule}
@@ -20,7 +20,6 @@ use Rattle.console_names.specs.Names.{name_of, kind_of, side_of}
 abbrev Counts : ℕ → Command → Type 0
 Counts n command.Empty = Unit
 Counts n command.Comment = Unit
-Counts n command.Wrong = Unit
 Counts n (command.Plan a s) = Unit
 Counts n (command.Rule r) = r.entries ≡ n
 Counts n (command.Bare c) = Unit
@@ -49,9 +48,9 @@ module _ (n : ℕ) where
   on_plan [] = tt
   on_plan (w ∷ ws) = on_given (unsigned_of w) _ (λ a. on_given (only_unsigned ws) _ (λ s. tt))
 
-  on_wrong : (o : Option Command) → Told n o → Counts n (unwrap_or o command.Wrong)
-  on_wrong None h = tt
-  on_wrong (Some c) h = h
+  on_comment : (b : Bool) (o : Option Command) → Told n o → Told n (cond b (Some command.Comment) o)
+  on_comment true o h = tt
+  on_comment false o h = h
 
 on_rule : (w : Word) (ws : List Word) → Told (length (entries_of (drop 5 (w ∷ ws)))) (rule_of ws)
 on_rule w [] = tt
@@ -69,18 +68,13 @@ on_name w ws name.Rule = on_rule w ws
 on_name w ws (name.Bare c) = on_none (length (entries_of (drop 5 (w ∷ ws)))) ws _ tt
 on_name w ws (name.Literal c) = on_given (length (entries_of (drop 5 (w ∷ ws)))) (only_signed ws) _ (λ l. tt)
 on_name w ws (name.Number c) = on_given (length (entries_of (drop 5 (w ∷ ws)))) (only_unsigned ws) _ (λ k. tt)
-on_name w ws name.Unknown = tt
 
-on_comment : (n : ℕ) (b : Bool) (c : Command) → Counts n c → Counts n (cond b command.Comment c)
-on_comment n true c h = tt
-on_comment n false c h = h
-
-on_words : (ws : List Word) → Counts (length (entries_of (drop 5 ws))) (of_words ws)
+on_words : (ws : List Word) → Told (length (entries_of (drop 5 ws))) (of_words ws)
 on_words [] = tt
 on_words (w ∷ ws) =
     let n = length (entries_of (drop 5 (w ∷ ws))) in
-    on_comment n (comment w) _ (on_wrong n (by_name (name_of w) ws) (on_name w ws (name_of w)))
+    on_comment n (comment w) _ (on_given n (name_of w) _ (on_name w ws))
 
-pub rule_counted : (line : List ℕ) (r : Rule) → command_of line ≡ command.Rule r → r.entries ≡ length (entries_in line)
+pub rule_counted : (line : List ℕ) (r : Rule) → command_of line ≡ Some (command.Rule r) → r.entries ≡ length (entries_in line)
 unfolding command_of
-rule_counted line r e = subst (λ (c : Command). Counts (length (entries_in line)) c) e (on_words (words line))
+rule_counted line r e = subst (λ (o : Option Command). Told (length (entries_in line)) o) e (on_words (words line))

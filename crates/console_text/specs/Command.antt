@@ -1,5 +1,5 @@
 -- The command that a line is, by its words.
-use Rattle.std.specs.Prelude.{Bool, false, cond, List, [], ◌∷◌, ℕ, eqb, ℤ, Option, Some, None, unwrap_or, option_and_then}
+use Rattle.std.specs.Prelude.{Bool, false, cond, List, [], ◌∷◌, ℕ, eqb, ℤ, Option, Some, None, option_and_then}
 use Rattle.console_text.specs.declared.Command.{Command}
 use Rattle.console_text.specs.declared.Command.TheVariants as command
 use Rattle.console_names.specs.declared.Name.{Name}
@@ -58,16 +58,16 @@ by_name name.Rule ws = rule_of ws
 by_name (name.Bare c) ws = no_words ws (command.Bare c)
 by_name (name.Literal c) ws = given (only_signed ws) (λ l. Some (command.Literal c l))
 by_name (name.Number c) ws = given (only_unsigned ws) (λ k. Some (command.Number c k))
-by_name name.Unknown ws = None
 
 -- `#` is 35
 abbrev pub comment : Word → Bool
 comment [] = false
 comment (b ∷ bs) = eqb b 35
 
-abbrev pub of_words : List Word → Command
-of_words [] = command.Empty
-of_words (w ∷ ws) = cond (comment w) command.Comment (unwrap_or (by_name (name_of w) ws) command.Wrong)
+abbrev pub of_words : List Word → Option Command
+of_words [] = Some command.Empty
+of_words (w ∷ ws) = cond (comment w) (Some command.Comment) (given (name_of w) (λ n. by_name n ws))
 
-unfoldable pub command_of : List ℕ → Command
+-- none where the line is wrong
+unfoldable pub command_of : List ℕ → Option Command
 command_of line = of_words (words line)

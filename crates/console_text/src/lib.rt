@@ -11,18 +11,18 @@ use console_names::{Bare, Name, OfLiteral, OfNumber};
 #[derive(Clone, Copy, Debug, PartialEq, Eq)]
 pub struct Rule {
     pub head: i64,
+    // Stays: load's columns take document 01's numbers of kinds and sides.
     pub kind: u64,
     pub side: u64,
     pub bound: i64,
     pub entries: u64,
 }
 
-// What a line is.
+// What a line is that is right.
 #[derive(Clone, Copy, Debug, PartialEq, Eq)]
 pub enum Command {
     Empty,
     Comment,
-    Wrong,
     Plan(u64, u64),
     Rule(Rule),
     Bare(Bare),
@@ -85,19 +85,18 @@ fn by_name(name: Name, line: &[u8]) -> Option<Command>
             let number = console_words::read_unsigned(only_word(line)?)?;
             Some(Command::Number(command, number))
         }
-        Name::Unknown => None,
     }
 }
 
-// The command that a line is.
-pub fn parse(line: &[u8]) -> Command
+// The command that a line is; none where it is wrong.
+pub fn parse(line: &[u8]) -> Option<Command>
     ensures { result ≡ command_of line.now }
 {
     let Some((word, rest)) = console_words::split_word(line) else {
-        return Command::Empty;
+        return Some(Command::Empty);
     };
     if word[0] == b'#' {
-        return Command::Comment;
+        return Some(Command::Comment);
     }
-    by_name(console_names::read_name(word), rest).unwrap_or(Command::Wrong)
+    by_name(console_names::read_name(word)?, rest)
 }

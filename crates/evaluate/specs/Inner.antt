@@ -1,4 +1,5 @@
 pub mod Known
+pub mod Of
 pub mod Room
 pub mod Sentence
 pub mod Words

@@ -4,15 +4,15 @@
 ghost use Rattle.std.specs.Prelude.{◌≡◌, true, ◌+◌, ◌≤◌, ◌<◌, length};
 ghost use Rattle.numbers.specs.Words.{half, top};
 ghost use Rattle.area.specs.Layout.{value_at, bound_at, entry_words};
-ghost use Rattle.extremes.specs.Inner.Stored.{EvaluateReady, ExtremesAre};
+ghost use Rattle.extremes.specs.Inner.Of.{ExtremesOf};
 ghost use Rattle.extremes.specs.Inner.Words.{empty_word};
 ghost use Rattle.extremes.specs.Inner.Room.{Entries};
-ghost use Rattle.evaluate.specs.Inner.Sentence.{SaidIs};
 ghost use Rattle.evaluate.specs.Inner.Words.{best_kind, second_word, limit_at, scanned, wanted_word};
 ghost use Rattle.evaluate.specs.Inner.Room.{Turns, Turnable};
-ghost use Rattle.evaluate.specs.Inner.Known.{turns_open, head_known, body_known, KnownIs};
+ghost use Rattle.evaluate.specs.Inner.Known.{turns_open, head_known, body_known};
+ghost use Rattle.evaluate.specs.Inner.Of.{KnownOf, SaidOf};
 
-use extremes::Extremes;
+use extremes::{Evaluable, Extremes};
 use kinds::{Aggregate, Kind, Max, Min};
 
 mod steps;
@@ -151,15 +151,15 @@ fn limit_at(area: &[u64], base: usize) -> u64
 }
 
 // What that sentence says before its entries are scanned, where its extremes are known.
-pub fn look(area: &[u64], n: usize, sentences: usize, base: usize, found: Extremes) -> Known
-    requires evaluate_ready { EvaluateReady area.now n sentences base }
-    requires extremes_are { ExtremesAre area.now n sentences base found }
-    ensures { KnownIs area.now n sentences base result }
+pub fn look(sentence: Evaluable<'_>, found: Extremes) -> Known
+    requires { ExtremesOf sentence found }
+    ensures { KnownOf sentence.entry result }
 {
+    let Evaluable { area, sizes, base } = sentence;
     let head = area::head_at(area, base);
     let upper = area::upper_at(area, base);
     let limit = limit_at(area, base);
-    let v = area::value_at(area, n, head as usize);
+    let v = area::value_at(area, sizes.atoms, head as usize);
     if v == 0 {
         // It holds where it cannot come to fail, and fails where it cannot come to hold.
         let failing = steps::upwards(upper, false);
@@ -176,24 +176,24 @@ pub fn look(area: &[u64], n: usize, sentences: usize, base: usize, found: Extrem
         up,
         limit,
         extreme: found.towards(up),
-        start: area::entry_at(area, n, sentences, base),
+        start: area::entry_at(area, sizes, base),
         merged: area::merged_at(area, base),
     };
-    of_body(area, body, found.towards(!up), n)
+    of_body(area, body, found.towards(!up), sizes.atoms)
 }
 
 // Whether the extremes alone show that the sentence has nothing to say: its head is open and the comparison too, or its head is fixed and
 // the comparison is sure to have its truth.
-pub fn settled(area: &[u64], n: usize, sentences: usize, base: usize, found: Extremes) -> bool
-    requires evaluate_ready { EvaluateReady area.now n sentences base }
-    requires extremes_are { ExtremesAre area.now n sentences base found }
-    ensures { result ≡ true → SaidIs area.now n sentences base Said.Silent }
+pub fn settled(sentence: Evaluable<'_>, found: Extremes) -> bool
+    requires { ExtremesOf sentence found }
+    ensures { result ≡ true → SaidOf sentence.entry Said.Silent }
 {
+    let Evaluable { area, sizes, base } = sentence;
     let limit = limit_at(area, base);
     let sure = limit <= found.least;
     let possible = limit <= found.greatest;
     let head = area::head_at(area, base);
-    let v = area::value_at(area, n, head as usize);
+    let v = area::value_at(area, sizes.atoms, head as usize);
     if v == 0 {
         return possible && !sure;
     }
@@ -205,15 +205,14 @@ pub fn settled(area: &[u64], n: usize, sentences: usize, base: usize, found: Ext
 }
 
 // What that sentence says first, where its extremes are known.
-pub fn says(area: &[u64], n: usize, sentences: usize, base: usize, found: Extremes) -> Said
-    requires evaluate_ready { EvaluateReady area.now n sentences base }
-    requires extremes_are { ExtremesAre area.now n sentences base found }
-    ensures { SaidIs area.now n sentences base result }
+pub fn says(sentence: Evaluable<'_>, found: Extremes) -> Said
+    requires { ExtremesOf sentence found }
+    ensures { SaidOf sentence.entry result }
 {
-    match look(area, n, sentences, base, found) {
+    match look(sentence, found) {
         Known::Silent => Said::Silent,
         Known::Conflict => Said::Conflict,
         Known::Forced(l) => Said::Forced(l),
-        Known::Undecided(body) => scan(area, body, n),
+        Known::Undecided(body) => scan(sentence.area, body, sentence.sizes.atoms),
     }
 }

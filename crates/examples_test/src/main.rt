@@ -4,10 +4,68 @@
 #![tactic(auto)]
 
 use calls::{Bound, Refusal};
-use columns::Columns;
+use columns::SentenceColumns;
 use search::Searched;
 use std::io;
+use test_parts::{M4, NO_SENTENCES};
 use types::{Atom, Counters, Level, Sentence};
+
+// Document 01's sentences by the name of the example; M2 has the one of M1, M5 that of M4.
+const M1: SentenceColumns<'static> = SentenceColumns {
+    head: 6,
+    kind: 0,
+    side: 0,
+    bound: 3,
+    weights: &[-5, -2, 0, 1, 9],
+    literals: &[1, 2, 3, 4, 5],
+};
+
+const M3: SentenceColumns<'static> = SentenceColumns {
+    head: 3,
+    kind: 0,
+    side: 0,
+    bound: 0,
+    weights: &[-5, -2, 2, 5],
+    literals: &[1, -1, 2, 2],
+};
+
+const M6: SentenceColumns<'static> = SentenceColumns {
+    head: 1,
+    kind: 3,
+    side: 1,
+    bound: 0,
+    weights: &[],
+    literals: &[],
+};
+
+const M7: SentenceColumns<'static> = SentenceColumns { side: 0, ..M6 };
+
+const M8: SentenceColumns<'static> = SentenceColumns {
+    head: 3,
+    kind: 3,
+    side: 0,
+    bound: 0,
+    weights: &[0, -4],
+    literals: &[1, 2],
+};
+
+const M9: SentenceColumns<'static> = SentenceColumns {
+    head: 3,
+    kind: 4,
+    side: 0,
+    bound: 6,
+    weights: &[5, 8],
+    literals: &[1, 2],
+};
+
+const M10: SentenceColumns<'static> = SentenceColumns {
+    head: 3,
+    kind: 1,
+    side: 1,
+    bound: 5,
+    weights: &[2, 3],
+    literals: &[1, 2],
+};
 
 // A bound: its number, or which infinite one it is.
 fn show_bound(rt: &impl Print, bound: Bound) -> io::Result<()> {
@@ -49,30 +107,9 @@ fn show_trail(rt: &impl Print, area: &[u64], counters: Counters) -> io::Result<(
 }
 
 // One sentence over six atoms, and the literals given.
-fn example(
-    rt: &impl Print,
-    head: u64,
-    kind: u64,
-    side: u64,
-    limit: i64,
-    weights: &[i64],
-    literals: &[i64],
-    given: &[i64],
-) -> io::Result<()> {
+fn example(rt: &impl Print, sentence: SentenceColumns<'_>, given: &[i64]) -> io::Result<()> {
     let mut area = [0u64; 64];
-    let answer = dalelead::load(
-        &mut area,
-        Atom(6),
-        Columns {
-            heads: &[head],
-            kinds: &[kind],
-            sides: &[side],
-            bounds: &[limit],
-            counts: &[weights.len() as u64],
-            weights,
-            literals,
-        },
-    );
+    let answer = test_parts::load_one(&mut area, Atom(6), sentence);
     println!(rt; "load {}", test_parts::loaded(answer).0)?;
     let now = test_parts::give_all(rt, &mut area, given)?;
     show_bounds(rt, &area, now)?;
@@ -82,51 +119,37 @@ fn example(
 }
 
 fn sums(rt: &impl Print) -> io::Result<()> {
-    let weights = [-5i64, -2, 0, 1, 9];
-    let literals = [1i64, 2, 3, 4, 5];
     println!(rt; "M1")?;
-    example(rt, 6, 0, 0, 3, &weights, &literals, &[-4, 5])?;
+    example(rt, M1, &[-4, 5])?;
     println!(rt; "M2")?;
-    example(rt, 6, 0, 0, 3, &weights, &literals, &[6, 1])?;
+    example(rt, M1, &[6, 1])?;
     println!(rt; "M3")?;
-    example(rt, 3, 0, 0, 0, &[-5, -2, 2, 5], &[1, -1, 2, 2], &[])?;
+    example(rt, M3, &[])?;
     println!(rt; "M4")?;
-    example(rt, 3, 0, 1, 1, &[1, 2], &[1, 2], &[3, 1])?;
+    example(rt, M4, &[3, 1])?;
     println!(rt; "M5")?;
-    example(rt, 3, 0, 1, 1, &[1, 2], &[1, 2], &[3, 1, 2])
+    example(rt, M4, &[3, 1, 2])
 }
 
 fn extremes(rt: &impl Print) -> io::Result<()> {
     println!(rt; "M6")?;
-    example(rt, 1, 3, 1, 0, &[], &[], &[])?;
+    example(rt, M6, &[])?;
     println!(rt; "M7")?;
-    example(rt, 1, 3, 0, 0, &[], &[], &[])?;
+    example(rt, M7, &[])?;
     println!(rt; "M8")?;
-    example(rt, 3, 3, 0, 0, &[0, -4], &[1, 2], &[3])?;
+    example(rt, M8, &[3])?;
     println!(rt; "M9")?;
-    example(rt, 3, 4, 0, 6, &[5, 8], &[1, 2], &[-1])?;
+    example(rt, M9, &[-1])?;
     println!(rt; "M10")?;
-    example(rt, 3, 1, 1, 5, &[2, 3], &[1, 2], &[3])?;
-    example(rt, 3, 1, 1, 5, &[2, 3], &[1, 2], &[3, 1])
+    example(rt, M10, &[3])?;
+    example(rt, M10, &[3, 1])
 }
 
 // M11: derived at level 1, taken back, and derived again at level 0.
 fn again(rt: &impl Print) -> io::Result<()> {
     println!(rt; "M11")?;
     let mut area = [0u64; 64];
-    let _ = dalelead::load(
-        &mut area,
-        Atom(3),
-        Columns {
-            heads: &[3],
-            kinds: &[0],
-            sides: &[1],
-            bounds: &[1],
-            counts: &[2],
-            weights: &[1, 2],
-            literals: &[1, 2],
-        },
-    );
+    let _ = test_parts::load_one(&mut area, Atom(3), M4);
     let given = test_parts::give_all(rt, &mut area, &[3, 1])?;
     let opened = dalelead::open_level(&mut area, given);
     println!(rt; "open {}", test_parts::code(opened))?;
@@ -222,19 +245,7 @@ fn open_all(rt: &impl Print, area: &mut [u64]) -> io::Result<Counters> {
 // At the highest level an open literal ends the search, with no refusal, and one that is on the trail is passed over.
 fn levels(rt: &impl Print) -> io::Result<()> {
     let mut area = [0u64; 4];
-    let _ = dalelead::load(
-        &mut area,
-        Atom(1),
-        Columns {
-            heads: &[],
-            kinds: &[],
-            sides: &[],
-            bounds: &[],
-            counts: &[],
-            weights: &[],
-            literals: &[],
-        },
-    );
+    let _ = dalelead::load(&mut area, Atom(1), NO_SENTENCES);
     let top = open_all(rt, &mut area)?;
     show_search_of(rt, &mut area, top, &[1])?;
     let given = test_parts::give_one(rt, &mut area, top, 1)?;

@@ -18,10 +18,10 @@ pub fn explain_within(
     requires { Fitting lim }
     ensures { Reports lim area.now (counted counters) (explain literal) list.old list.new (listed_returned result) }
 {
-    if !whole::is_whole(area, lim, counters) {
+    let Some(checked) = whole::whole_area(area, lim, counters) else {
         return Err(Refusal::NotWhole);
-    }
-    explanation::explanation_whole(area, lim, counters, literal, list)
+    };
+    explanation::explanation_whole(checked, literal, list)
 }
 
 pub fn explain_conflict_within(
@@ -34,8 +34,8 @@ pub fn explain_conflict_within(
     requires { Fitting lim }
     ensures { Reports lim area.now (counted counters) (explain_conflict sentence.0) list.old list.new (listed_returned result) }
 {
-    if !whole::is_whole(area, lim, counters) {
+    let Some(checked) = whole::whole_area(area, lim, counters) else {
         return Err(Refusal::NotWhole);
-    }
-    conflict::conflict_whole(area, lim, counters, sentence, list)
+    };
+    conflict::conflict_whole(checked, sentence, list)
 }

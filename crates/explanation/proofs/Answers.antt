@@ -17,6 +17,8 @@ use Rattle.calls.specs.declared.Refusal.TheVariants.{TooShort}
 use Rattle.causes.specs.Inner.Causes.{CausesAsked}
 use Rattle.located.specs.Inner.Located.{OnTrail}
 use Rattle.causes.specs.Inner.Listing.{Listing}
+use Rattle.extremes.specs.Inner.Stored.{EvaluateReady}
+use Rattle.whole.proofs.Gives.{ready}
 use Rattle.causes.proofs.Gives.{causes_asked}
 use Rattle.causes.proofs.Listing.{listing_refused, listing_done}
 use Rattle.negations.specs.Inner.Negations.{negations, overwritten}
@@ -47,13 +49,14 @@ module _ {lim : Limits} {w : List ℕ} {c : Counters} (fit : Fitting lim) (h : W
     abbrev others : List ℤ
     others = negations w n S (record_at n s) p
 
-    pub reason_asked : CausesAsked w n S (record_at n s) p
-    reason_asked = causes_asked lim w c fit h s p reason_few (omega (arith, d.on.position.inside))
+    pub reason_asked : CausesAsked w n p
+    reason_asked = causes_asked lim w c fit h p (omega (arith, d.on.position.inside))
+
+    pub reason_ready : EvaluateReady w n S (record_at n s)
+    reason_ready = ready lim w c h fit s reason_few
 
     pub others_few : length others ≤ 4097
-    others_few =
-        let r = reason_asked.sentence.1 in
-        omega (arith, few reason_asked, r.merged, r.fitting.each)
+    others_few = omega (arith, few reason_ready p, reason_ready.merged)
 
     module _ (old : List ℤ) {found : ℕ} (counted : found ≡ length others) where
       pub explanation_short : length old < 1 + found → Listing lim w (explain l) old old (Err (TooShort (1 + found)))

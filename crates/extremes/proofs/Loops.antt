@@ -12,7 +12,7 @@ use Rattle.kinds.specs.declared.Kind.{Kind}
 use Rattle.extremes.specs.declared.Extremes.{Extremes}
 use Rattle.extremes.specs.declared.EntryWords.{EntryWords}
 use Rattle.extremes.specs.Inner.Words.{empty_word, combined, reach_word, ReachesAre, contributions, folded, StepIs, FoldsAre}
-use Rattle.extremes.specs.Inner.Room.{Entries, Inside, EntryIs, Steps, Room, Rooms}
+use Rattle.extremes.specs.Inner.Room.{Entries, EntryIs, Steps, Room, Rooms}
 
 -- ---- the words from entry i on
 

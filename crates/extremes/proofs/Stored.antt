@@ -10,10 +10,13 @@ use lib.IntN.{ℤ}
 use lib.Dec.{eqb}
 use lib.ListN.{length}
 use lib.Seq.{length-slice}
+use Rattle.types.specs.Limits.{Fitting, widest}
+use Rattle.types.specs.declared.Limits.{Limits}
 use Rattle.numbers.specs.Words.{top}
 use Rattle.numbers.specs.Words.{word as word_of}
 use Rattle.numbers.specs.Extended.{up, down}
 use Rattle.numbers.proofs.Words.{parity, word_unword}
+use Rattle.meaning.specs.Merge.{Rule}
 use Rattle.meaning.specs.Computed.{extreme}
 use Rattle.area.specs.Layout.{tag_at, kind_at, upper_at, head_at, bound_at, constant_at, weight_in, literal_in, written_at, merged_at, entry_at, entry_words, value_at, kind_of, side_of, entries_of, rule_at}
 use Rattle.area.specs.Whole.{RuleWhole}
@@ -64,26 +67,42 @@ module _ (k : Kind) (n : ℕ) (area : List ℕ) (start count : ℕ) (inside : st
 
 -- ---- a sentence that is ready
 
+abbrev widest_fits : Fitting widest
+widest_fits = record { atoms = omega arith; sentences = omega arith; entries = omega arith; each = omega arith; levels = omega arith }
+
+-- what is whole within limits that fit is whole within the widest
+pub widened : {lim : Limits} {n : ℕ} {r : Rule} → Fitting lim → RuleWhole lim n r → RuleWhole widest n r
+widened fit h = record {
+  few = omega (arith, h.few, fit.each);
+  head_low = h.head_low;
+  head_high = h.head_high;
+  bound = h.bound;
+  constant = h.constant;
+  entries = h.entries;
+  once = h.once;
+  product = h.product;
+}
+
 pub bound_high : {w : List ℕ} {n S b : ℕ} → EvaluateReady w n S b → bound_at w b < top
-bound_high {w} {n} {S} {b} ready = omega (arith, near_far (bound_at w b) 1000000000000000000 ready.1.rule.bound)
+bound_high {w} {n} {S} {b} ready = omega (arith, near_far (bound_at w b) 1000000000000000000 ready.rule.bound)
 
 pub sound_at : (w : List ℕ) (n S b : ℕ) → EvaluateReady w n S b → (k : Kind) → meant k ≡ kind_of (kind_at w b)
     → Sound n k (bound_at w b) (constant_at w b) (head_at w b) (entry_words w (entry_at w n S b) (merged_at w b))
 sound_at w n S b ready k e =
     let words = entry_words w (entry_at w n S b) (merged_at w b) in
     let few : length (entries_of words) ≤ 4096 =
-    omega (arith, half_length words, length-slice (entry_at w n S b) (entry_at w n S b + 2 * merged_at w b) w ready.1.entries, ready.1.merged, ready.1.fitting.each) in
-    sound_from ready.0 n (upper_at w b) (bound_at w b) (constant_at w b) (head_at w b) (written_at w b) words ready.1.fitting few k
-    (subst (RuleWhole ready.0 n) (sym (rule_is w n S b k e)) ready.1.rule)
+    omega (arith, half_length words, length-slice (entry_at w n S b) (entry_at w n S b + 2 * merged_at w b) w ready.entries, ready.merged) in
+    sound_from widest n (upper_at w b) (bound_at w b) (constant_at w b) (head_at w b) (written_at w b) words widest_fits few k
+    (subst (RuleWhole widest n) (sym (rule_is w n S b k e)) ready.rule)
 
 module _ {w : List ℕ} {n S b : ℕ} (k : Kind) (ready : EvaluateReady w n S b) (e : meant k ≡ kind_of (kind_at w b)) where
   pub entries_at : Entries w (entry_at w n S b) (merged_at w b) n
   entries_at =
-      let proper = proper_at k n w (entry_at w n S b) (merged_at w b) ready.1.entries (sound_at w n S b ready k e).legal in
+      let proper = proper_at k n w (entry_at w n S b) (merged_at w b) ready.entries (sound_at w n S b ready k e).legal in
       record {
-        atoms_low = ready.1.atoms_low;
-        inside = ready.1.entries;
-        values = omega (arith, ready.1.values);
+        atoms_low = ready.atoms_low;
+        inside = ready.entries;
+        values = omega (arith, ready.values);
         literal = λ i h. (proper i h).literal;
         atom_high = λ i h. (proper i h).atom_high;
       }

@@ -1,3 +1,4 @@
+pub mod Of
 pub mod Room
 pub mod Stored
 pub mod Words

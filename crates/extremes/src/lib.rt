@@ -3,12 +3,16 @@
 
 ghost use Rattle.std.specs.Prelude.{◌≡◌, cond};
 ghost use Rattle.area.specs.Layout.{value_at, entry_words};
-ghost use Rattle.extremes.specs.Inner.Stored.{EvaluateReady, ExtremesAre};
+ghost use Rattle.extremes.specs.Inner.Of.{ExtremesOf};
 ghost use Rattle.extremes.specs.Inner.Words.{start_word, combined, furthest_word, ReachesAre, StepIs, FoldsAre};
 ghost use Rattle.extremes.specs.Inner.Room.{Entries, Inside, EntryIs, Steps, Rooms};
 
 use kinds::{Aggregate, Count, Kind, Max, Min, Product, Sum};
 use types::HALF;
+
+mod evaluable;
+
+pub use evaluable::Evaluable;
 
 // The words of the least and the greatest value.
 #[derive(Clone, Copy, Debug, PartialEq, Eq)]
@@ -170,14 +174,13 @@ fn folds_by_kind(
     }
 }
 
-// The extremes of the sentence whose eight words start at `base`, with n atoms and `count` sentences in the area.
-pub fn extremes_of(area: &[u64], n: usize, sentences: usize, base: usize) -> Extremes
-    requires { EvaluateReady area.now n sentences base }
-    ensures { ExtremesAre area.now n sentences base result }
+pub fn extremes_of(sentence: Evaluable<'_>) -> Extremes
+    ensures { ExtremesOf sentence.entry result }
 {
+    let Evaluable { area, sizes, base } = sentence;
     let kind = area::kind_at(area, base);
     let first = start_of(kind, area::constant_at(area, base));
-    let start = area::entry_at(area, n, sentences, base);
+    let start = area::entry_at(area, sizes, base);
     let merged = area::merged_at(area, base);
-    folds_by_kind(area, kind, first, start, merged, n)
+    folds_by_kind(area, kind, first, start, merged, sizes.atoms)
 }

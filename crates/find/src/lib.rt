@@ -5,8 +5,9 @@ ghost use Rattle.std.specs.Prelude.{◌<◌};
 ghost use Rattle.find.specs.Inner.Find.{FoundIs};
 ghost use Rattle.find.specs.Inner.Asked.{FindReady, KnownAt};
 
+use area::Sizes;
 use evaluate::Known;
-use extremes::Extremes;
+use extremes::{Evaluable, Extremes};
 
 // Nothing; the sentence in conflict, counted from 0; or the sentence that forces, the literal's word, and where the sentence has its atom:
 // 0 for the head, j for merged entry j from 1.
@@ -18,12 +19,12 @@ pub enum Found {
 }
 
 // What is known of sentence s before its entries are scanned: nothing is to be said where it is not marked as pending.
-fn known_of(area: &[u64], n: usize, sentences: usize, s: usize) -> Known
-    requires find_ready { FindReady area.now n sentences }
-    requires s_lt_sentences { s < sentences }
-    ensures { KnownAt area.now n sentences s result }
+fn known_of(area: &[u64], sizes: Sizes, s: usize) -> Known
+    requires find_ready { FindReady area.now sizes.atoms sizes.sentences }
+    requires s_lt_sentences { s < sizes.sentences }
+    ensures { KnownAt area.now sizes.atoms sizes.sentences s result }
 {
-    let base = 4 * n + 8 * s;
+    let base = sizes.record_at(s);
     if !area::pending_at(area, base) {
         return Known::Silent;
     }
@@ -31,17 +32,17 @@ fn known_of(area: &[u64], n: usize, sentences: usize, s: usize) -> Known
         least: area::least_at(area, base),
         greatest: area::greatest_at(area, base),
     };
-    evaluate::look(area, n, sentences, base, stored)
+    evaluate::look(Evaluable { area, sizes, base }, stored)
 }
 
 // The scan over the sentences and the entries, left at the first that speaks.
-pub fn find(area: &[u64], n: usize, sentences: usize) -> Found
-    requires { FindReady area.now n sentences }
-    ensures { FoundIs area.now n sentences result }
+pub fn find(area: &[u64], sizes: Sizes) -> Found
+    requires { FindReady area.now sizes.atoms sizes.sentences }
+    ensures { FoundIs area.now sizes.atoms sizes.sentences result }
 {
     let mut found = Found::Nothing;
-    'sentences: for s in 0..sentences {
-        match known_of(area, n, sentences, s) {
+    'sentences: for s in 0..sizes.sentences {
+        match known_of(area, sizes, s) {
             Known::Silent => {}
             Known::Conflict => {
                 found = Found::Conflict(s);
@@ -53,7 +54,7 @@ pub fn find(area: &[u64], n: usize, sentences: usize) -> Found
             }
             Known::Undecided(body) => {
                 for i in 0..body.merged {
-                    let e = extremes::entry_in(area, body.start, n, i);
+                    let e = extremes::entry_in(area, body.start, sizes.atoms, i);
                     if evaluate::entry_turns(body, e.weight, e.value) {
                         let forced = evaluate::entry_wanted(body, e.weight, e.literal);
                         found = Found::Forced(s, forced, i + 1);

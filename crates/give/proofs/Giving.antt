@@ -1,7 +1,7 @@
 -- The refusal of a give on a whole area, by its tests: no atom has the literal's number (10), or the atom's value word is not 0 (11). And what
 -- it leaves otherwise: the literal is put on at the current level with no reason.
 use mathlib.Core.Path.{◌≡◌, refl, sym, ◌∙◌, ap, subst}
-use mathlib.Core.Bool.{Bool, true, false, not, ◌&&◌, ◌||◌}
+use mathlib.Core.Bool.{Bool, false, not, ◌&&◌, ◌||◌}
 use mathlib.Core.List.{List}
 use Prim.Native.Nat.{ℕ, ◌+◌, ◌/◌, ◌≤◌}
 use native.Mathlib.Omega.{arith}
@@ -15,7 +15,7 @@ use Rattle.numbers.proofs.Words.{literal_of_word}
 use Rattle.meaning.specs.Meaning.{atom}
 use Rattle.literals.specs.Inner.Literals.{unknown}
 use Rattle.literals.proofs.Atoms.{known_within}
-use Rattle.book.specs.Table.{give, done, returned_by, State, no_atom, Outcome, effect, reply, a_step}
+use Rattle.book.specs.Table.{give, done, returned_by, State, Outcome, effect, reply, a_step}
 use Rattle.book.specs.Book.{Counters}
 use Rattle.area.specs.Layout.{atoms_of, sentences_of, value_at}
 use Rattle.whole.specs.Parts.{counters_with}

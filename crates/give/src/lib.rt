@@ -15,6 +15,7 @@ ghost use Rattle.whole.specs.Inner.Usable.{Usable};
 ghost use Rattle.give.specs.Inner.Ready.{AdvanceReady, Ready};
 ghost use Rattle.give.specs.Inner.Refused.{refusal_code};
 
+use area::Sizes;
 use calls::Refusal;
 use types::{Counters, Limits};
 
@@ -30,13 +31,13 @@ fn only(atom: usize) -> [u8; 4097]
 
 // A literal of an open atom goes on the trail of a whole area, with its level, reason and place in `mark`; the bounds of the sentences
 // that have the atom are renewed.
-pub fn advance(area: &mut [u64], n: usize, sentences: usize, len: usize, literal: u64, mark: u64)
-    requires { AdvanceReady area.old n sentences len literal mark }
-    ensures { (lim : Limits) (level : ℕ) → Advanceable lim area.old n sentences len level literal mark → Advanced lim area.old area.new len level literal mark }
+pub fn advance(area: &mut [u64], sizes: Sizes, len: usize, literal: u64, mark: u64)
+    requires { AdvanceReady area.old sizes.atoms sizes.sentences len literal mark }
+    ensures { (lim : Limits) (level : ℕ) → Advanceable lim area.old sizes.atoms sizes.sentences len level literal mark → Advanced lim area.old area.new len level literal mark }
 {
-    trail::put(area, n, len, literal, mark);
+    trail::put(area, sizes.atoms, len, literal, mark);
     let touched = only((literal / 2) as usize);
-    refresh::refresh(area, n, sentences, &touched);
+    refresh::refresh(area, sizes, &touched);
 }
 
 // ---- give
@@ -74,13 +75,17 @@ pub fn give_whole(area: &mut [u64], counters: Counters, literal: i64) -> Result<
     ensures { (lim : Limits) → Usable lim area.old (counted counters) → Acts lim area.old area.new (counted counters) (counted (counters_after counters result)) (give literal) (done_returned result) }
 {
     let atom = open_atom(area, literal)?;
-    let n = area::atoms_of(area);
-    let sentences = area::sentences_of(area);
-    let length = counters.length;
+    let sizes = area::sizes_of(area);
     let word = word_of(literal, atom);
-    advance(area, n, sentences, length as usize, word, counters.level.0);
+    advance(
+        area,
+        sizes,
+        counters.length as usize,
+        word,
+        counters.level.0,
+    );
     Ok(Counters {
-        length: length + 1,
+        length: counters.length + 1,
         ..counters
     })
 }

@@ -71,6 +71,7 @@ pub fn load_copied(
         atoms.0 (with_records sentences.entry records) (answer_of result) }
     ensures counters { IfOk result (λ c. c ≡ start) }
 {
+    // Stays: read once: the slices below end there.
     let n = copied.count;
     if n > MOST {
         return Err(Refusal::Misshapen);

@@ -58,10 +58,7 @@ fn show_give(
     held: &mut Counters,
     literal: i64,
 ) -> io::Result<()> {
-    let code = match give_held(area, held, literal) {
-        Ok(()) => 0,
-        Err(refusal) => refusal.code(),
-    };
+    let code = test_parts::code(give_held(area, held, literal));
     println!(rt; "give {code} {} {}", held.length, held.level.0)
 }
 
@@ -115,13 +112,8 @@ fn show_load(
         },
         [first, second],
     );
-    match answer {
-        Ok(_) => println!(rt; "load 0 0"),
-        Err(refusal) => {
-            let told = refusal.answer();
-            println!(rt; "load {} {}", told.code, told.sentence.0)
-        }
-    }
+    let (code, sentence) = test_parts::loaded(answer);
+    println!(rt; "load {code} {sentence}")
 }
 
 fn main(rt: HostRuntime) -> io::Result<()> {

@@ -67,12 +67,17 @@ pub fn take_back_whole(area: &mut [u64], counters: Counters, to: Level) -> Resul
     if to.0 == counters.level.0 {
         return Ok(counters);
     }
-    let n = area::atoms_of(area);
-    let sentences = area::sentences_of(area);
+    let sizes = area::sizes_of(area);
     let mut touched = [0u8; 4097];
-    let left = trail::cut(area, n, counters.length as usize, to.0, &mut touched);
-    trail::set_header(area, n, left, to.0);
-    refresh::refresh(area, n, sentences, &touched);
+    let left = trail::cut(
+        area,
+        sizes.atoms,
+        counters.length as usize,
+        to.0,
+        &mut touched,
+    );
+    trail::set_header(area, sizes.atoms, left, to.0);
+    refresh::refresh(area, sizes, &touched);
     Ok(Counters {
         length: left as u64,
         level: to,

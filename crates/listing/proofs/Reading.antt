@@ -20,8 +20,9 @@ use Rattle.opb_text.proofs.Columns.{same_rows}
 use Rattle.opb_rows.proofs.Stores.{same_columns}
 use Rattle.pages.specs.declared.Page.{Page}
 use Rattle.pages.specs.Page.{Holds, Puts}
-use Rattle.pages.proofs.Laws.{starts}
+use Rattle.pages.proofs.Laws.{starts, puts_as}
 use Rattle.answer_lines.specs.Lines.{refused_line}
+use Rattle.listing.specs.Inner.Steps.{Answers}
 use Rattle.listing.specs.Output.{area_words, judged_sentences, answered, printed, output, Prints}
 
 abbrev pub fronts : ℕ → ℕ → Columns → Columns
@@ -71,7 +72,7 @@ module _ {text : List ℕ} {old new : Columns} {r : Result Read Refusal} (h : Re
   filled_by : (x : Read) → r ≡ Ok x → new ≡ result_of (reading text) old
   filled_by x z = subst (λ (y : Result Read Refusal). OnOk y (new ≡ result_of (reading text) old)) z h.filled
 
-  pub answered_printed :
+  answered_printed :
       (x : Read) → r ≡ Ok x →
       answered x.variables x.constraints (judged_sentences (all_written (fronts x.sentences x.entries new)))
       (load_answer document area_words (x.variables + x.constraints) (fronts x.sentences x.entries new))
@@ -96,6 +97,11 @@ module _ {text : List ℕ} {old new : Columns} {r : Result Read Refusal} (h : Re
           ∙ ap (there v (length cs)) (fronts_are xs old)
           ∙ ap (λ (ys : List Written). answered v (length cs) (judged_sentences ys) (load_answer document area_words (v + length cs) (columns_of xs))) (same_rows xs)
           ∙ ap printed (sym e)
+
+  -- the columns' fronts are what load is handed
+  pub read_answered : {p q : Page} {xs : Columns} (x : Read) → r ≡ Ok x → Answers p q x.variables x.constraints xs → xs ≡ fronts x.sentences x.entries new
+      → Puts p q (output text)
+  read_answered {p} {q} x z f e = puts_as (answered_printed x z) (subst (Answers p q x.variables x.constraints) e f)
 
 -- from the start of the page
 pub prints : {input old more : List ℕ} {p q : Page} → p.end ≡ 0 → p.bytes.now ≡ old → Puts p q more → more ≡ output input → Prints input old q.bytes.now q.end

@@ -8,13 +8,15 @@ ghost use Rattle.types.specs.Limits.{document};
 ghost use Rattle.calls.specs.Calls.{area_state};
 ghost use Rattle.columns.specs.Columns.{held};
 ghost use Rattle.pages.specs.Page.{Puts};
-ghost use Rattle.listing_lines.specs.Lines.{WholeArea};
+ghost use Rattle.listing_heads.specs.Heads.{IsWhole};
 ghost use Rattle.listing.specs.Output.{listing, output, Prints};
 ghost use Rattle.listing.specs.Inner.Steps.{Answers};
 
 use columns::Columns;
+use opb_rows::ColumnsMut;
 use pages::Page;
 use types::{Atom, Counters, Limits};
+use whole::WholeArea;
 
 // The columns and the area that every text within the limits has room in.
 const SENTENCES: usize = Limits::SENTENCES as usize;
@@ -25,12 +27,17 @@ const WORDS: usize = 4 * Limits::ATOMS as usize + 8 * SENTENCES + 2 * ENTRIES;
 
 // Propagate on a whole area, and the listing.
 fn put_listing(page: &mut Page<'_>, area: &mut [u64], counters: Counters)
-    requires { WholeArea area.old counters }
+    requires { IsWhole area.old counters }
     ensures { Puts page.old page.new (listing (area_state document area.old)) }
 {
     let stopped = propagate::propagate_whole(area, counters);
     answer_lines::put_stopped(page, stopped);
-    listing_lines::put_state(page, area, stopped.counters());
+    let whole = WholeArea {
+        area,
+        lim: Limits::document(),
+        counters: stopped.counters(),
+    };
+    listing_lines::put_state(page, whole);
 }
 
 // ---- the run
@@ -64,16 +71,16 @@ fn put_output(page: &mut Page<'_>, text: &[u8])
     let mut counts = [0u64; SENTENCES];
     let mut weights = [0i64; ENTRIES];
     let mut literals = [0i64; ENTRIES];
-    let read = opb_text::read_text(
-        text,
-        &mut heads,
-        &mut kinds,
-        &mut sides,
-        &mut bounds,
-        &mut counts,
-        &mut weights,
-        &mut literals,
-    );
+    let mut lent = ColumnsMut {
+        heads: &mut heads,
+        kinds: &mut kinds,
+        sides: &mut sides,
+        bounds: &mut bounds,
+        counts: &mut counts,
+        weights: &mut weights,
+        literals: &mut literals,
+    };
+    let read = opb_text::read_text(text, &mut lent);
     match read {
         Ok(read) => {
             let n = read.sentences as usize;

@@ -20,8 +20,7 @@ use Rattle.area.specs.Whole.{Whole}
 use Rattle.calls.specs.declared.Refusal.{Refusal}
 use Rattle.calls.specs.Calls.{area_state, counted, counters_after, is_refusal, unmoved, Moved, Acts}
 use Rattle.give.proofs.Moves.{state_after}
-use Rattle.listing_lines.specs.Lines.{WholeArea}
-use Rattle.listing_heads.specs.Heads.{heads_given, start, HeadsGiven}
+use Rattle.listing_heads.specs.Heads.{heads_given, start, IsWhole, HeadsGiven}
 
 -- the area after a call, as a state of the table
 pub record Next (w w' : List ℕ) (c' : Counters) (x : Call) : Type 0 where
@@ -64,7 +63,7 @@ give_next {w} {w'} {c} {c'} l h a = by (unmoved (area_state document w) (give l)
 
 -- ---- one head more
 
-pub heads_none : (w : List ℕ) (v : ℕ) → WholeArea w start → HeadsGiven w w v 0 start
+pub heads_none : (w : List ℕ) (v : ℕ) → IsWhole w start → HeadsGiven w w v 0 start
 unfolding heads_given
 heads_none w v h = record { stands = record { whole = h; state = refl }; size = refl }
 
@@ -82,7 +81,7 @@ heads_more {w} {w₁} {w₂} {v} {k} {c} {d} l r e s g a =
     let f : v + k + 1 ≡ v + suc k = omega arith in
     record {
       stands = record {
-        whole = subst (WholeArea w₂) (sym (s ∙ went_on c r)) n.whole;
+        whole = subst (IsWhole w₂) (sym (s ∙ went_on c r)) n.whole;
         state = n.state
             ∙ ap₂ (λ (q : State) (m : ℤ). following_call q (a_step (give m))) g.stands.state (e ∙ ap pos f)
             ∙ ap (heads_given (area_state document w) v) (sym (add-one k));

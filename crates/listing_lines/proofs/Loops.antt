@@ -8,7 +8,6 @@ use mir.Syntax.{w64}
 use mir.Val.{to_z, of_z, SFits}
 use mir.ValLaws.{to_z-of_z}
 use Rattle.std.specs.Prelude.{Result}
-use Rattle.types.specs.Limits.{document}
 use Rattle.types.specs.declared.Limits.{Limits}
 use Rattle.numbers.specs.Words.{literal_of}
 use Rattle.book.specs.Rows.{Row, a_row}
@@ -45,15 +44,15 @@ row_more w n i {z} f e x l m g h =
     (then g h)
 
 pub bound_more :
-    {p q t : Page} (w : List ℕ) (k : ℕ) {lim : Limits} (b : Result Bounds Refusal) → lim ≡ document →
+    {p q t : Page} (lim : Limits) (w : List ℕ) (k : ℕ) (b : Result Bounds Refusal) →
     bounds_returned b ≡ returned_by (reply (area_state lim w) (a_report (bounds (k + 1)) 0)).answer →
-    Puts p q (bound_lines (area_state document w) k) → Puts q t (bound_line (k + 1) (bounds_returned b)) →
-    Puts p t (bound_lines (area_state document w) (k + 1))
+    Puts p q (bound_lines (area_state lim w) k) → Puts q t (bound_line (k + 1) (bounds_returned b)) →
+    Puts p t (bound_lines (area_state lim w) (k + 1))
 unfolding bound_lines
-bound_more w k {lim} b l e g h =
-    let s : bounds_returned b ≡ returned_by (reply (area_state document w) (a_report (bounds (suc k)) 0)).answer =
-    e ∙ ap₂ (λ (x : Limits) (m : ℕ). returned_by (reply (area_state x w) (a_report (bounds m) 0)).answer) l (add-one k) in
+bound_more lim w k b e g h =
+    let s : bounds_returned b ≡ returned_by (reply (area_state lim w) (a_report (bounds (suc k)) 0)).answer =
+    e ∙ ap (λ (m : ℕ). returned_by (reply (area_state lim w) (a_report (bounds m) 0)).answer) (add-one k) in
     puts_as
-    (ap₂ (λ (m : ℕ) (x : Returned). bound_lines (area_state document w) k ++ bound_line m x) (add-one k) s
-    ∙ ap (λ (m : ℕ). bound_lines (area_state document w) m) (sym (add-one k)))
+    (ap₂ (λ (m : ℕ) (x : Returned). bound_lines (area_state lim w) k ++ bound_line m x) (add-one k) s
+    ∙ ap (λ (m : ℕ). bound_lines (area_state lim w) m) (sym (add-one k)))
     (then g h)

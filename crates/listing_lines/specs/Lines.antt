@@ -1,12 +1,8 @@
 -- The lines of the OPB program's listing: a row of the trail, the bounds of a sentence, and those of a whole state.
 use Rattle.std.specs.Prelude.{List, [], ◌∷◌, ◌++◌, ℕ, zero, suc, length}
-use Rattle.types.specs.Limits.{document}
-use Rattle.types.specs.declared.Counters.{Counters}
 use Rattle.numbers.specs.Text.{bytes, decimal, signed_decimal}
 use Rattle.book.specs.Rows.{Row}
 use Rattle.book.specs.Table.{bounds, a_report, Returned, returned_by, State, reply}
-use Rattle.area.specs.Whole.{Whole}
-use Rattle.calls.specs.Calls.{counted}
 
 -- '`t`: literal, level, reason (0 given).'
 abbrev pub row_line : Row → List ℕ
@@ -29,7 +25,3 @@ bound_lines q (suc k) = bound_lines q k ++ bound_line (suc k) (returned_by (repl
 
 abbrev pub state_lines : State → List ℕ
 state_lines q = row_lines q.rows ++ bound_lines q (length q.sentences)
-
--- what the functions ask: a whole area
-abbrev pub WholeArea : List ℕ → Counters → Type 0
-WholeArea w c = Whole document w (counted c)

@@ -8,6 +8,7 @@ ghost use Rattle.columns.specs.Columns.{held};
 ghost use Rattle.columns.specs.Answers.{answer_of};
 ghost use Rattle.load.specs.Load.{Loads};
 
+use area::Sizes;
 use columns::{Columns, Refusal};
 use types::{Atom, Counters, Limits};
 
@@ -23,10 +24,13 @@ pub fn load_within(
     ensures counters { IfOk result (λ c. c ≡ start) }
 {
     load_check::check(area.len(), lim, atoms, columns)?;
-    let n = atoms.0 as usize;
-    store::store_all(area, n, columns);
+    let sizes = Sizes {
+        atoms: atoms.0 as usize,
+        sentences: columns.heads.len(),
+    };
+    store::store_all(area, sizes.atoms, columns);
     let touched = [1u8; 4097];
-    refresh::refresh(area, n, columns.heads.len(), &touched);
+    refresh::refresh(area, sizes, &touched);
     Ok(Counters::start())
 }
 

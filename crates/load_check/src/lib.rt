@@ -9,7 +9,7 @@ ghost use Rattle.columns.specs.Answers.{answer_of};
 ghost use Rattle.columns.specs.Refusals.{all_refusals, first_refusal, load_answer};
 ghost use Rattle.columns.specs.Decides.{Shaped};
 
-use columns::{Columns, Refusal};
+use columns::{Columns, Refusal, SentenceColumns};
 use types::{Atom, Limits, Sentence};
 
 fn check_sentences(lim: Limits, n: u64, columns: Columns<'_>) -> Result<(), Refusal>
@@ -19,16 +19,15 @@ fn check_sentences(lim: Limits, n: u64, columns: Columns<'_>) -> Result<(), Refu
     let mut from = 0;
     for s in 0..columns.heads.len() {
         let to = from + columns.counts[s] as usize;
-        if let Err(fault) = sentence_check::check_sentence(
-            lim,
-            n,
-            columns.heads[s],
-            columns.kinds[s],
-            columns.sides[s],
-            columns.bounds[s],
-            &columns.weights[from..to],
-            &columns.literals[from..to],
-        ) {
+        let sentence = SentenceColumns {
+            head: columns.heads[s],
+            kind: columns.kinds[s],
+            side: columns.sides[s],
+            bound: columns.bounds[s],
+            weights: &columns.weights[from..to],
+            literals: &columns.literals[from..to],
+        };
+        if let Err(fault) = sentence_check::check_sentence(lim, n, sentence) {
             return Err(Refusal::Faulty(Sentence(s as u64 + 1), fault));
         }
         from = to;

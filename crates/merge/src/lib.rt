@@ -17,6 +17,7 @@ fn sift(part: &mut [u64], count: usize) -> usize
     requires { (2 * count ≤ length part.old) × (count ≤ widest.each) }
     ensures { Sifted part.old part.new count result }
 {
+    // Stays: where the next kept entry goes in the same words (no heap, so no `retain`).
     let mut m = 0;
     for k in 0..count {
         let x = part[2 * k];

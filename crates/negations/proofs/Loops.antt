@@ -14,7 +14,8 @@ use Rattle.std.specs.Option.{is_some}
 use Rattle.meaning.specs.Merge.{scope}
 use Rattle.book.specs.Rows.{pick, causes}
 use Rattle.area.specs.Layout.{merged_at, rule_at}
-use Rattle.causes.specs.Inner.Causes.{before, CausesAsked}
+use Rattle.extremes.specs.Inner.Stored.{EvaluateReady}
+use Rattle.causes.specs.Inner.Causes.{before}
 use Rattle.causes.proofs.Places.{scope_length, causes_next, causes_end, causes_few}
 use Rattle.negations.specs.Inner.Negations.{negations, NegationAt, overwritten}
 
@@ -33,11 +34,11 @@ pub record Writing (w : List ℕ) (n S b limit start : ℕ) (old : List ℤ) (i 
   pub front : take at list ++ negations_from w n S b limit i ≡ take start old ++ negations w n S b limit
   pub rest : drop at list ≡ drop at old
 
-module _ {w : List ℕ} {n S b limit : ℕ} where
-  pub writing_starts : {start : ℕ} {old : List ℤ} → Writing w n S b limit start old 0 start old
+module _ {w : List ℕ} {n S b : ℕ} where
+  pub writing_starts : {limit start : ℕ} {old : List ℤ} → Writing w n S b limit start old 0 start old
   writing_starts = record { size = refl; end = refl; front = refl; rest = refl }
 
-  module _ (q : CausesAsked w n S b limit) where
+  module _ (ready : EvaluateReady w n S b) (limit : ℕ) where
     abbrev sc : List ℕ
     sc = scope (rule_at w n S b)
 
@@ -45,10 +46,10 @@ module _ {w : List ℕ} {n S b limit : ℕ} where
     from i = negations_from w n S b limit i
 
     pub few : length (negations w n S b limit) ≤ merged_at w b + 1
-    few = omega (arith, length-map (causes (before w n limit) sc) neg_ℤ, causes_few (before w n limit) sc, scope_length w n S b q.sentence)
+    few = omega (arith, length-map (causes (before w n limit) sc) neg_ℤ, causes_few (before w n limit) sc, scope_length w n S b ready)
 
     past : (i : ℕ) → merged_at w b < i → from i ≡ []
-    past i h = ap {A = List ℤ} (map neg_ℤ) (causes_end (before w n limit) sc i (omega (arith, scope_length w n S b q.sentence)))
+    past i h = ap {A = List ℤ} (map neg_ℤ) (causes_end (before w n limit) sc i (omega (arith, scope_length w n S b ready)))
 
     pub counted_ends : (i found : ℕ) → merged_at w b < i → Counted w n S b limit i found → found ≡ length (negations w n S b limit)
     counted_ends i found h e = omega (arith, e, ap {A = List ℤ} length (past i h))
@@ -66,7 +67,7 @@ module _ {w : List ℕ} {n S b limit : ℕ} where
 
     module _ (i : ℕ) (inside : i ≤ merged_at w b) where
       next : from i ≡ map neg_ℤ (pick (before w n limit) (get_or sc i 0) (causes (before w n limit) (drop (i + 1) sc)))
-      next = ap {A = List ℤ} (map neg_ℤ) (causes_next (before w n limit) sc i (omega (arith, scope_length w n S b q.sentence)))
+      next = ap {A = List ℤ} (map neg_ℤ) (causes_next (before w n limit) sc i (omega (arith, scope_length w n S b ready)))
 
       not_here : NegationAt w n (get_or sc i 0) limit None → from i ≡ from (i + 1)
       not_here off = next ∙ ap {A = List ℤ} (map neg_ℤ) (off (causes (before w n limit) (drop (i + 1) sc)))

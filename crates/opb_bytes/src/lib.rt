@@ -2,6 +2,7 @@
 #![tactic(auto, unfolding(opb_grammar::specs::Grammar::transition, opb_grammar::specs::Grammar::ends))]
 
 ghost use Rattle.std.specs.Prelude.{◌≡◌};
+ghost use Rattle.std.specs.Result.{result_err};
 ghost use Rattle.opb_grammar.specs.Grammar as grammar;
 ghost use Rattle.opb_bytes.specs.Inner.States.{StateSound};
 
@@ -11,7 +12,7 @@ use opb_grammar::{Counts, Fault, Next, Number, Phase, Sizes, State};
 // ---- the automaton
 
 // What a byte makes of a state, by the phase.
-pub fn step(s: State, b: u8) -> Next
+pub fn step(s: State, b: u8) -> Result<Next, Fault>
     requires { StateSound s }
     ensures { result ≡ grammar.step s b }
 {
@@ -44,17 +45,17 @@ pub fn step(s: State, b: u8) -> Next
 
 // ---- the end of the text
 
-// Nothing where the text may end, else what it is refused for.
-pub fn ends(s: State) -> Option<Fault>
-    ensures { result ≡ grammar.ends s.phase s }
+// Ok where the text may end, else what it is refused for.
+pub fn check_end(s: State) -> Result<(), Fault>
+    ensures { result_err result ≡ grammar.ends s.phase s }
 {
     match s.phase {
-        Phase::InV => Some(s.v_fault().unwrap_or(Fault::Form)),
-        Phase::InC => Some(s.c_fault().unwrap_or(Fault::Form)),
-        Phase::InVariable => Some(s.variable_fault().unwrap_or(Fault::Form)),
-        Phase::InWeight | Phase::InBound => Some(s.long_fault().unwrap_or(Fault::Form)),
-        Phase::LineStart | Phase::Between | Phase::Comment => None,
-        _ => Some(Fault::Form),
+        Phase::InV => s.check_v().and(Err(Fault::Form)),
+        Phase::InC => s.check_c().and(Err(Fault::Form)),
+        Phase::InVariable => s.check_variable().and(Err(Fault::Form)),
+        Phase::InWeight | Phase::InBound => s.check_digits().and(Err(Fault::Form)),
+        Phase::LineStart | Phase::Between | Phase::Comment => Ok(()),
+        _ => Err(Fault::Form),
     }
 }
 

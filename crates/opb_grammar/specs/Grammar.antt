@@ -1,5 +1,5 @@
 -- The grammar of an OPB text as an automaton: which byte may stand where, which refusal stands at it, and where the text may end.
-use Rattle.std.specs.Prelude.{Bool, true, false, cond, Option, None, Some, unwrap_or, List, [], ◌∷◌, ℕ, suc, ◌+◌, ◌*◌, ◌-◌, min, length, get_or, eqb, leb, ltb}
+use Rattle.std.specs.Prelude.{Bool, true, false, cond, Option, None, Some, unwrap_or, Result, Ok, Err, List, [], ◌∷◌, ℕ, suc, ◌+◌, ◌*◌, ◌-◌, min, length, get_or, eqb, leb, ltb}
 use Rattle.types.specs.Limits.{document}
 use Rattle.opb_grammar.specs.declared.Phase.{Phase}
 use Rattle.opb_grammar.specs.declared.Phase.TheVariants.{Opening, BeforeV, InV, Middle, BeforeC, InC, AfterReturn, LineStart, Between, Comment, WeightSign, InWeight, BeforeX, BeforeVariable, InVariable, AfterTerm, AfterGreater, AfterRelation, BeforeBound, BoundSign, InBound, AfterBound}
@@ -10,7 +10,7 @@ use Rattle.opb_grammar.specs.declared.State.{State}
 use Rattle.opb_grammar.specs.declared.Fault.{Fault}
 use Rattle.opb_grammar.specs.declared.Fault.TheVariants.{Form, Count, Digits, TooLong, TooMany}
 use Rattle.opb_grammar.specs.declared.Next.{Next}
-use Rattle.opb_grammar.specs.declared.Next.TheVariants.{More, Term, Constraint, Refused}
+use Rattle.opb_grammar.specs.declared.Next.TheVariants.{More, Term, Constraint}
 use Rattle.opb_classes.specs.declared.Class.{Class}
 use Rattle.opb_classes.specs.declared.Class.TheVariants.{Blank, Digit, Plus, Minus, Star, Ex, Greater, Equal, Semicolon}
 use Rattle.opb_classes.specs.Bytes.{line_feed, return, digit_zero, class_of, is}
@@ -88,9 +88,9 @@ unfoldable pub variable_fault : State → Option Fault
 variable_fault s = cond (ltb s.sizes.variables s.number.size) (Some Count) (cond (leb entries_limit s.counts.entries) (Some TooMany) None)
 
 -- the byte behind a number: the number's fault stands before it
-unfoldable pub behind : Option Fault → Next → Next
+unfoldable pub behind : Option Fault → Result Next Fault → Result Next Fault
 behind None n = n
-behind (Some f) n = Refused f
+behind (Some f) n = Err f
 
 -- ---- pieces
 
@@ -102,55 +102,55 @@ abbrev pub middle : List ℕ
 middle = 32 ∷ 35 ∷ 99 ∷ 111 ∷ 110 ∷ 115 ∷ 116 ∷ 114 ∷ 97 ∷ 105 ∷ 110 ∷ 116 ∷ 61 ∷ 32 ∷ []
 
 -- its next byte, in phase p; a number follows in phase q
-unfoldable pub expect : List ℕ → Phase → Phase → State → ℕ → Next
+unfoldable pub expect : List ℕ → Phase → Phase → State → ℕ → Result Next Fault
 expect text p q s b =
     cond (eqb (get_or text s.matched 0) b)
-    (cond (eqb (suc s.matched) (length text)) (More (numbering s q (signed false))) (More (matching s p (suc s.matched))))
-    (Refused Form)
+    (cond (eqb (suc s.matched) (length text)) (Ok (More (numbering s q (signed false)))) (Ok (More (matching s p (suc s.matched)))))
+    (Err Form)
 
 -- a digit that begins or goes on with the number in hand
-abbrev pub digits : State → Phase → ℕ → Class → Next
-digits s p b k = cond (is k Digit) (More (numbering s p (more s.number b))) (Refused Form)
+abbrev pub digits : State → Phase → ℕ → Class → Result Next Fault
+digits s p b k = cond (is k Digit) (Ok (More (numbering s p (more s.number b)))) (Err Form)
 
 -- a number that may have a sign: phase p behind the sign, q behind a digit
-unfoldable pub begin : Phase → Phase → State → ℕ → Class → Next
+unfoldable pub begin : Phase → Phase → State → ℕ → Class → Result Next Fault
 begin p q s b k =
-    cond (is k Digit) (More (numbering s q (more (signed false) b)))
-    (cond (is k Plus) (More (numbering s p (signed false)))
-    (cond (is k Minus) (More (numbering s p (signed true))) (Refused Form)))
+    cond (is k Digit) (Ok (More (numbering s q (more (signed false) b))))
+    (cond (is k Plus) (Ok (More (numbering s p (signed false))))
+    (cond (is k Minus) (Ok (More (numbering s p (signed true)))) (Err Form)))
 
 -- outside constraints: blanks, or a constraint's first term
-unfoldable pub between : State → ℕ → Class → Next
-between s b k = cond (eqb b line_feed) (More (at s LineStart)) (cond (is k Blank) (More (at s Between)) (begin WeightSign InWeight s b k))
+unfoldable pub between : State → ℕ → Class → Result Next Fault
+between s b k = cond (eqb b line_feed) (Ok (More (at s LineStart))) (cond (is k Blank) (Ok (More (at s Between))) (begin WeightSign InWeight s b k))
 
 -- a term is complete
 abbrev pub term : State → State
 term s = counting s AfterTerm s.equal (record s.counts { terms = s.counts.terms + 1; entries = s.counts.entries + 1 })
 
 -- a relation is complete: `>=` makes one sentence, `=` two, with its terms once more
-unfoldable pub relation_at_least : State → Next
+unfoldable pub relation_at_least : State → Result Next Fault
 relation_at_least s =
     cond (leb (s.counts.sentences + 1) sentences_limit)
-    (More (counting s AfterRelation false (record s.counts { sentences = s.counts.sentences + 1 })))
-    (Refused TooMany)
+    (Ok (More (counting s AfterRelation false (record s.counts { sentences = s.counts.sentences + 1 }))))
+    (Err TooMany)
 
-unfoldable pub relation_equal : State → Next
+unfoldable pub relation_equal : State → Result Next Fault
 relation_equal s =
     cond (leb (s.counts.sentences + 2) sentences_limit)
     (cond (leb (s.counts.entries + s.counts.terms) entries_limit)
-    (More (counting s AfterRelation true (record s.counts { entries = s.counts.entries + s.counts.terms; sentences = s.counts.sentences + 2 })))
-    (Refused TooMany))
-    (Refused TooMany)
+    (Ok (More (counting s AfterRelation true (record s.counts { entries = s.counts.entries + s.counts.terms; sentences = s.counts.sentences + 2 }))))
+    (Err TooMany))
+    (Err TooMany)
 
 -- behind the right side: blanks, or `;`
-unfoldable pub finish : State → Class → Next
+unfoldable pub finish : State → Class → Result Next Fault
 finish s k =
-    cond (is k Blank) (More (at s AfterBound))
-    (cond (is k Semicolon) (Constraint (counting s Between s.equal (record s.counts { terms = 0 }))) (Refused Form))
+    cond (is k Blank) (Ok (More (at s AfterBound)))
+    (cond (is k Semicolon) (Ok (Constraint (counting s Between s.equal (record s.counts { terms = 0 })))) (Err Form))
 
 -- ---- the automaton: a byte b of class k, by the phase
 
-unfoldable pub transition : Phase → State → ℕ → Class → Next
+unfoldable pub transition : Phase → State → ℕ → Class → Result Next Fault
 transition Opening s b k = expect opening Opening BeforeV s b
 transition BeforeV s b k = digits s InV b k
 transition InV s b k =
@@ -161,31 +161,31 @@ transition BeforeC s b k = digits s InC b k
 transition InC s b k =
     cond (is k Digit) (digits s InC b k)
     (behind (c_fault s)
-    (cond (eqb b line_feed) (More (sizing s LineStart (record s.sizes { constraints = s.number.size })))
-    (cond (eqb b return) (More (sizing s AfterReturn (record s.sizes { constraints = s.number.size }))) (Refused Form))))
-transition AfterReturn s b k = cond (eqb b line_feed) (More (at s LineStart)) (Refused Form)
-transition LineStart s b k = cond (is k Star) (More (at s Comment)) (between s b k)
+    (cond (eqb b line_feed) (Ok (More (sizing s LineStart (record s.sizes { constraints = s.number.size }))))
+    (cond (eqb b return) (Ok (More (sizing s AfterReturn (record s.sizes { constraints = s.number.size })))) (Err Form))))
+transition AfterReturn s b k = cond (eqb b line_feed) (Ok (More (at s LineStart))) (Err Form)
+transition LineStart s b k = cond (is k Star) (Ok (More (at s Comment))) (between s b k)
 transition Between s b k = between s b k
-transition Comment s b k = cond (eqb b line_feed) (More (at s LineStart)) (More (at s Comment))
+transition Comment s b k = cond (eqb b line_feed) (Ok (More (at s LineStart))) (Ok (More (at s Comment)))
 transition WeightSign s b k = digits s InWeight b k
 transition InWeight s b k =
-    cond (is k Digit) (digits s InWeight b k) (behind (long_fault s) (cond (is k Blank) (More (weighing s BeforeX)) (Refused Form)))
-transition BeforeX s b k = cond (is k Blank) (More (at s BeforeX)) (cond (is k Ex) (More (numbering s BeforeVariable (signed false))) (Refused Form))
-transition BeforeVariable s b k = cond (eqb b digit_zero) (Refused Form) (digits s InVariable b k)
+    cond (is k Digit) (digits s InWeight b k) (behind (long_fault s) (cond (is k Blank) (Ok (More (weighing s BeforeX))) (Err Form)))
+transition BeforeX s b k = cond (is k Blank) (Ok (More (at s BeforeX))) (cond (is k Ex) (Ok (More (numbering s BeforeVariable (signed false)))) (Err Form))
+transition BeforeVariable s b k = cond (eqb b digit_zero) (Err Form) (digits s InVariable b k)
 transition InVariable s b k =
-    cond (is k Digit) (digits s InVariable b k) (behind (variable_fault s) (cond (is k Blank) (Term (term s)) (Refused Form)))
+    cond (is k Digit) (digits s InVariable b k) (behind (variable_fault s) (cond (is k Blank) (Ok (Term (term s))) (Err Form)))
 transition AfterTerm s b k =
-    cond (is k Blank) (More (at s AfterTerm))
-    (cond (is k Greater) (More (at s AfterGreater))
+    cond (is k Blank) (Ok (More (at s AfterTerm)))
+    (cond (is k Greater) (Ok (More (at s AfterGreater)))
     (cond (is k Equal) (relation_equal s) (begin WeightSign InWeight s b k)))
-transition AfterGreater s b k = cond (is k Equal) (relation_at_least s) (Refused Form)
-transition AfterRelation s b k = cond (is k Blank) (More (at s BeforeBound)) (Refused Form)
-transition BeforeBound s b k = cond (is k Blank) (More (at s BeforeBound)) (begin BoundSign InBound s b k)
+transition AfterGreater s b k = cond (is k Equal) (relation_at_least s) (Err Form)
+transition AfterRelation s b k = cond (is k Blank) (Ok (More (at s BeforeBound))) (Err Form)
+transition BeforeBound s b k = cond (is k Blank) (Ok (More (at s BeforeBound))) (begin BoundSign InBound s b k)
 transition BoundSign s b k = digits s InBound b k
 transition InBound s b k = cond (is k Digit) (digits s InBound b k) (behind (long_fault s) (finish s k))
 transition AfterBound s b k = finish s k
 
-abbrev pub step : State → ℕ → Next
+abbrev pub step : State → ℕ → Result Next Fault
 step s b = transition s.phase s b (class_of b)
 
 -- ---- the end of the text: nothing where it may stand, else the refusal; a number's fault stands before it

@@ -1,7 +1,8 @@
-// What has been read of an OPB text: the state between two bytes, its changes, and the faults of a number that has ended.
+// What has been read of an OPB text: the state between two bytes, its changes, and the checks of a number that has ended.
 #![tactic(auto)]
 
 ghost use Rattle.std.specs.Prelude.{◌≡◌, ◌+◌, leb};
+ghost use Rattle.std.specs.Result.{result_err};
 ghost use Rattle.opb_grammar.specs.Grammar as grammar;
 
 use types::Limits;
@@ -104,13 +105,12 @@ impl Fault {
     }
 }
 
-// What a byte makes of a state: the text goes on, where a term or a whole constraint may just have been passed, or it is refused.
+// What a byte that is not refused makes of a state: the text goes on, where a term or a whole constraint may just have been passed.
 #[derive(Clone, Copy)]
 pub enum Next {
     More(State),
     Term(State),
     Constraint(State),
-    Refused(Fault),
 }
 
 // ---- numbers
@@ -122,6 +122,7 @@ const GREATEST: u64 = 1_000_000_000_000_000_000;
 pub fn within(a: u64, b: u64, limit: u64) -> bool
     ensures { result ≡ leb (a + b) limit }
 {
+    // Stays: no plainer by `checked_add`, and met with every digit.
     a <= limit && b <= limit - a
 }
 
@@ -214,49 +215,49 @@ impl State {
     }
 }
 
-// ---- faults of a number that has ended
+// ---- checks of a number that has ended
 
 impl State {
     #[tactic(auto, unfolding(crate::specs::Grammar::long_fault))]
-    pub fn long_fault(self) -> Option<Fault>
-        ensures { result ≡ grammar.long_fault self }
+    pub fn check_digits(self) -> Result<(), Fault>
+        ensures { result_err result ≡ grammar.long_fault self }
     {
         if self.number.digits < 19 {
-            return None;
+            return Ok(());
         }
-        Some(Fault::Digits)
+        Err(Fault::Digits)
     }
 
     #[tactic(auto, unfolding(crate::specs::Grammar::v_fault))]
-    pub fn v_fault(self) -> Option<Fault>
-        ensures { result ≡ grammar.v_fault self }
+    pub fn check_v(self) -> Result<(), Fault>
+        ensures { result_err result ≡ grammar.v_fault self }
     {
         if self.number.size == 0 {
-            return Some(Fault::Count);
+            return Err(Fault::Count);
         }
-        self.long_fault()
+        self.check_digits()
     }
 
     #[tactic(auto, unfolding(crate::specs::Grammar::c_fault))]
-    pub fn c_fault(self) -> Option<Fault>
-        ensures { result ≡ grammar.c_fault self }
+    pub fn check_c(self) -> Result<(), Fault>
+        ensures { result_err result ≡ grammar.c_fault self }
     {
         if within(self.sizes.variables, self.number.size, Limits::ATOMS) {
-            return self.long_fault();
+            return self.check_digits();
         }
-        Some(Fault::Count)
+        Err(Fault::Count)
     }
 
     #[tactic(auto, unfolding(crate::specs::Grammar::variable_fault))]
-    pub fn variable_fault(self) -> Option<Fault>
-        ensures { result ≡ grammar.variable_fault self }
+    pub fn check_variable(self) -> Result<(), Fault>
+        ensures { result_err result ≡ grammar.variable_fault self }
     {
         if self.sizes.variables < self.number.size {
-            return Some(Fault::Count);
+            return Err(Fault::Count);
         }
         if self.counts.entries < Limits::ENTRIES {
-            return None;
+            return Ok(());
         }
-        Some(Fault::TooMany)
+        Err(Fault::TooMany)
     }
 }

@@ -12,28 +12,28 @@ use types::Limits;
 
 // The next byte of a fixed text, in phase p; a number follows in phase q.
 #[tactic(auto, unfolding(opb_grammar::specs::Grammar::expect))]
-fn expect(text: &[u8], p: Phase, q: Phase, s: State, b: u8) -> Next
+fn expect(text: &[u8], p: Phase, q: Phase, s: State, b: u8) -> Result<Next, Fault>
     requires { s.matched < length text.now }
     ensures { result ≡ grammar.expect text.now p q s b }
 {
     let i = s.matched as usize;
     if text[i] != b {
-        return Next::Refused(Fault::Form);
+        return Err(Fault::Form);
     }
     if i + 1 == text.len() {
-        return Next::More(s.numbering(q, Number::sign(false)));
+        return Ok(Next::More(s.numbering(q, Number::sign(false))));
     }
-    Next::More(s.matching(p, s.matched + 1))
+    Ok(Next::More(s.matching(p, s.matched + 1)))
 }
 
-pub fn opening(s: State, b: u8) -> Next
+pub fn opening(s: State, b: u8) -> Result<Next, Fault>
     requires { s.matched < 13 }
     ensures { result ≡ grammar.expect grammar.opening Phase.Opening Phase.BeforeV s b }
 {
     expect(b"* #variable= ", Phase::Opening, Phase::BeforeV, s, b)
 }
 
-pub fn middle(s: State, b: u8) -> Next
+pub fn middle(s: State, b: u8) -> Result<Next, Fault>
     requires { s.matched < 14 }
     ensures { result ≡ grammar.expect grammar.middle Phase.Middle Phase.BeforeC s b }
 {
@@ -44,42 +44,42 @@ pub fn middle(s: State, b: u8) -> Next
 // of blanks took 31.1 million instructions for 26.9).
 
 // A digit, and no other byte.
-pub fn digits(s: State, p: Phase, b: u8, class: Class) -> Next
+pub fn digits(s: State, p: Phase, b: u8, class: Class) -> Result<Next, Fault>
     ensures { result ≡ grammar.digits s p b class }
 {
     if class == Class::Digit {
-        return Next::More(s.numbering(p, s.number.more(b)));
+        return Ok(Next::More(s.numbering(p, s.number.more(b))));
     }
-    Next::Refused(Fault::Form)
+    Err(Fault::Form)
 }
 
 // A number that may have a sign: phase p behind the sign, q behind a digit.
 #[tactic(auto, unfolding(opb_grammar::specs::Grammar::begin))]
-pub fn begin(p: Phase, q: Phase, s: State, b: u8, class: Class) -> Next
+pub fn begin(p: Phase, q: Phase, s: State, b: u8, class: Class) -> Result<Next, Fault>
     ensures { result ≡ grammar.begin p q s b class }
 {
     if class == Class::Digit {
-        return Next::More(s.numbering(q, Number::sign(false).more(b)));
+        return Ok(Next::More(s.numbering(q, Number::sign(false).more(b))));
     }
     if class == Class::Plus {
-        return Next::More(s.numbering(p, Number::sign(false)));
+        return Ok(Next::More(s.numbering(p, Number::sign(false))));
     }
     if class == Class::Minus {
-        return Next::More(s.numbering(p, Number::sign(true)));
+        return Ok(Next::More(s.numbering(p, Number::sign(true))));
     }
-    Next::Refused(Fault::Form)
+    Err(Fault::Form)
 }
 
 // Outside constraints: blanks, or a constraint's first term.
 #[tactic(auto, unfolding(opb_grammar::specs::Grammar::between))]
-pub fn between(s: State, b: u8, class: Class) -> Next
+pub fn between(s: State, b: u8, class: Class) -> Result<Next, Fault>
     ensures { result ≡ grammar.between s b class }
 {
     if b == b'\n' {
-        return Next::More(s.at(Phase::LineStart));
+        return Ok(Next::More(s.at(Phase::LineStart)));
     }
     if class == Class::Blank {
-        return Next::More(s.at(Phase::Between));
+        return Ok(Next::More(s.at(Phase::Between)));
     }
     begin(Phase::WeightSign, Phase::InWeight, s, b, class)
 }
@@ -99,17 +99,17 @@ pub fn term(s: State) -> State
 
 // `>=` makes one sentence.
 #[tactic(auto, unfolding(opb_grammar::specs::Grammar::relation_at_least))]
-pub fn relation_at_least(s: State) -> Next
+pub fn relation_at_least(s: State) -> Result<Next, Fault>
     ensures { result ≡ grammar.relation_at_least s }
 {
     if s.counts.sentences >= Limits::SENTENCES {
-        return Next::Refused(Fault::TooMany);
+        return Err(Fault::TooMany);
     }
     let counts = Counts {
         sentences: s.counts.sentences + 1,
         ..s.counts
     };
-    Next::More(s.counting(Phase::AfterRelation, false, counts))
+    Ok(Next::More(s.counting(Phase::AfterRelation, false, counts)))
 }
 
 // From so many sentences on there is no room for two more.
@@ -117,35 +117,35 @@ const NO_ROOM_FOR_TWO: u64 = Limits::SENTENCES - 1;
 
 // `=` makes two sentences, with its terms once more.
 #[tactic(auto, unfolding(opb_grammar::specs::Grammar::relation_equal))]
-pub fn relation_equal(s: State) -> Next
+pub fn relation_equal(s: State) -> Result<Next, Fault>
     ensures { result ≡ grammar.relation_equal s }
 {
     let room = opb_grammar::within(s.counts.entries, s.counts.terms, Limits::ENTRIES);
     if s.counts.sentences >= NO_ROOM_FOR_TWO || !room {
-        return Next::Refused(Fault::TooMany);
+        return Err(Fault::TooMany);
     }
     let counts = Counts {
         entries: s.counts.entries + s.counts.terms,
         sentences: s.counts.sentences + 2,
         ..s.counts
     };
-    Next::More(s.counting(Phase::AfterRelation, true, counts))
+    Ok(Next::More(s.counting(Phase::AfterRelation, true, counts)))
 }
 
 // Behind the right side: blanks, or `;`.
 #[tactic(auto, unfolding(opb_grammar::specs::Grammar::finish))]
-pub fn finish(s: State, class: Class) -> Next
+pub fn finish(s: State, class: Class) -> Result<Next, Fault>
     ensures { result ≡ grammar.finish s class }
 {
     match class {
-        Class::Blank => Next::More(s.at(Phase::AfterBound)),
+        Class::Blank => Ok(Next::More(s.at(Phase::AfterBound))),
         Class::Semicolon => {
             let counts = Counts {
                 terms: 0,
                 ..s.counts
             };
-            Next::Constraint(s.counting(Phase::Between, s.equal, counts))
+            Ok(Next::Constraint(s.counting(Phase::Between, s.equal, counts)))
         }
-        _ => Next::Refused(Fault::Form),
+        _ => Err(Fault::Form),
     }
 }

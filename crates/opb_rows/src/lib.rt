@@ -1,32 +1,34 @@
 // The columns of an OPB text, a term or a constraint at a time, from the state that has just read it.
 #![tactic(auto)]
 
-ghost use Rattle.std.specs.Prelude.{◌≡◌, cond, ◌+◌, ◌<◌, ◌≤◌, length, set, pos};
+ghost use Rattle.std.specs.Prelude.{◌≡◌, cond, ◌+◌, ◌≤◌, length};
 ghost use Rattle.std.proofs.lemmas.List.Edits.{sets};
-ghost use Rattle.columns.specs.Columns.{seven_columns};
 ghost use Rattle.opb_grammar.specs.Grammar.{size_limit};
+ghost use Rattle.opb_rows.specs.Columns.{held_of, SameColumns};
 ghost use Rattle.opb_rows.specs.Signed.{signed_of};
-ghost use Rattle.opb_rows.specs.Inner.Rows.{both, first_row, copied, with_rows, RowsRoom};
+ghost use Rattle.opb_rows.specs.Inner.Rows.{both, first_row, copied, with_term, with_rows, TermRoom, RowsRoom};
 
 use opb_grammar::{Number, State};
 
+// Load's columns, lent to be filled.
+#[derive(Drop)]
+pub struct ColumnsMut<'a> {
+    pub heads: &'a mut [u64],
+    pub kinds: &'a mut [u64],
+    pub sides: &'a mut [u64],
+    pub bounds: &'a mut [i64],
+    pub counts: &'a mut [u64],
+    pub weights: &'a mut [i64],
+    pub literals: &'a mut [i64],
+}
+
+// A number of the text with its sign.
 fn signed_value(n: Number) -> i64
     requires { n.size ≤ size_limit }
     ensures { result ≡ signed_of n }
 {
     let size = n.size as i64;
     if n.minus { -size } else { size }
-}
-
-// The term that has just been read, behind the entries before it.
-pub fn put_term(s: State, weights: &mut [i64], literals: &mut [i64])
-    requires { (s.counts.entries < length weights.old) × (s.counts.entries < length literals.old) × (s.weight.size ≤ size_limit) × (s.number.size ≤ size_limit) }
-    ensures weights_after { weights.new ≡ set weights.old s.counts.entries (signed_of s.weight) }
-    ensures literals_after { literals.new ≡ set literals.old s.counts.entries (pos s.number.size) }
-{
-    let at = s.counts.entries as usize;
-    weights[at] = signed_value(s.weight);
-    literals[at] = s.number.size as i64;
 }
 
 // A value in each row of the constraint that has just been read: one row, or for `=` two.
@@ -56,30 +58,31 @@ fn copy(column: &mut [i64], s: State)
     }
 }
 
-// The rows of the constraint that has just been read.
-pub fn put_rows(
-    s: State,
-    head: u64,
-    heads: &mut [u64],
-    kinds: &mut [u64],
-    sides: &mut [u64],
-    bounds: &mut [i64],
-    counts: &mut [u64],
-    weights: &mut [i64],
-    literals: &mut [i64],
-)
-    requires { RowsRoom s (seven_columns heads.old kinds.old sides.old bounds.old counts.old weights.old literals.old) }
-    ensures { seven_columns heads.new kinds.new sides.new bounds.new counts.new
-        weights.new literals.new ≡ with_rows s head
-        (seven_columns heads.old kinds.old sides.old bounds.old counts.old weights.old
-        literals.old) }
-{
-    let bound = signed_value(s.number);
-    put(heads, s, head, head);
-    put(kinds, s, 0, 0);
-    put(sides, s, 0, 1);
-    put(bounds, s, bound, bound);
-    put(counts, s, s.counts.terms, s.counts.terms);
-    copy(weights, s);
-    copy(literals, s);
+impl ColumnsMut<'_> {
+    // The term that has just been read, behind the entries before it.
+    pub fn put_term(&mut self, s: State)
+        requires { TermRoom s (held_of self.old) }
+        ensures same { SameColumns self.old self.new }
+        ensures holds { held_of self.new ≡ with_term s (held_of self.old) }
+    {
+        let at = s.counts.entries as usize;
+        self.weights[at] = signed_value(s.weight);
+        self.literals[at] = s.number.size as i64;
+    }
+
+    // The rows of the constraint that has just been read.
+    pub fn put_rows(&mut self, s: State, head: u64)
+        requires { RowsRoom s (held_of self.old) }
+        ensures same { SameColumns self.old self.new }
+        ensures holds { held_of self.new ≡ with_rows s head (held_of self.old) }
+    {
+        let bound = signed_value(s.number);
+        put(self.heads, s, head, head);
+        put(self.kinds, s, 0, 0);
+        put(self.sides, s, 0, 1);
+        put(self.bounds, s, bound, bound);
+        put(self.counts, s, s.counts.terms, s.counts.terms);
+        copy(self.weights, s);
+        copy(self.literals, s);
+    }
 }

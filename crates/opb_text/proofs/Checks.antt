@@ -10,10 +10,10 @@ use Rattle.numbers.specs.Text.{bytes}
 use Rattle.meaning.specs.Meaning.{Entry}
 use Rattle.opb_grammar.specs.declared.Phase.TheVariants.{AfterTerm}
 use Rattle.opb_grammar.specs.declared.State.{State}
-use Rattle.std.specs.Prelude.{Some, None}
+use Rattle.std.specs.Prelude.{Some, None, Result, Ok, Err}
+use Rattle.opb_grammar.specs.declared.Fault.{Fault}
 use Rattle.opb_grammar.specs.declared.Fault.TheVariants.{Form, Count, Digits, TooLong, TooMany}
 use Rattle.opb_grammar.specs.declared.Next.{Next}
-use Rattle.opb_grammar.specs.declared.Next.TheVariants.{More, Term, Constraint as Passed, Refused}
 use Rattle.opb_grammar.specs.Grammar.{sizing, fault_number, more, long_fault, v_fault, c_fault, variable_fault, behind, expect, begin, between, relation_at_least, relation_equal, finish, transition, ends}
 use Rattle.opb_text.specs.Text.{Constraint, Reading, taken, refused, go, reading}
 
@@ -154,11 +154,9 @@ counted t e n =
       counts = record { terms = t; entries = e; sentences = n };
     }
 
-abbrev pub fault_of : Next → ℕ
-fault_of (More s) = 0
-fault_of (Term s) = 0
-fault_of (Passed s) = 0
-fault_of (Refused f) = fault_number f
+abbrev pub fault_of : Result Next Fault → ℕ
+fault_of (Ok n) = 0
+fault_of (Err f) = fault_number f
 
 pub sentences_full :
     map fault_of

@@ -9,6 +9,7 @@ use lib.ListN.{length, get_or, drop, drop_of_length-le}
 use lib.Seq.{drop-cons}
 use borrow.Author.Tests.{lt-ltb, le-ltb}
 use Rattle.meaning.specs.Meaning.{Entry}
+use Rattle.std.specs.Prelude.{Result, Ok, Err}
 use Rattle.opb_grammar.specs.declared.State.{State}
 use Rattle.opb_grammar.specs.declared.Fault.{Fault}
 use Rattle.opb_grammar.specs.declared.Fault.TheVariants.{TooLong}
@@ -30,7 +31,7 @@ pub sound : (s : State) (cs : List Constraint) (es : List Entry) → Held s cs e
 sound s cs es w = omega arith
 
 module _ {text : List ℕ} {s : State} {i : ℕ} {cs : List Constraint} {es : List Entry} (so : Reached text s i cs es) where
-  module _ (h : i < length text) {r : Next} (q : r ≡ step s (get_or text i 0)) where
+  module _ (h : i < length text) {r : Result Next Fault} (q : r ≡ step s (get_or text i 0)) where
     goes_on : go text begins [] [] ≡ after_byte s cs es (go (drop (i + 1) text)) r
     unfolding go
     goes_on =
@@ -39,23 +40,23 @@ module _ {text : List ℕ} {s : State} {i : ℕ} {cs : List Constraint} {es : Li
         ∙ ap (after_byte s cs es (go (drop (suc i) text))) (sym q)
         ∙ ap (λ (n : ℕ). after_byte s cs es (go (drop n text)) r) (sym (add-one i))
 
-    pub goes_to : (n : Next) → r ≡ n → go text begins [] [] ≡ after_byte s cs es (go (drop (i + 1) text)) n
+    pub goes_to : (n : Result Next Fault) → r ≡ n → go text begins [] [] ≡ after_byte s cs es (go (drop (i + 1) text)) n
     goes_to n m = goes_on ∙ ap (after_byte s cs es (go (drop (i + 1) text))) m
 
-    pub keeps : (n : Next) → r ≡ n → Kept s cs es n
+    pub keeps : (n : Result Next Fault) → r ≡ n → Kept s cs es n
     keeps n m = subst (Kept s cs es) (sym q ∙ m) (step_kept s cs es (get_or text i 0) so.held)
 
-    pub on_more : (t : State) → r ≡ next.More t → Reached text t (i + 1) cs es
-    on_more t m = record { goes = goes_to (next.More t) m; held = (keeps (next.More t) m).0 }
+    pub on_more : (t : State) → r ≡ Ok (next.More t) → Reached text t (i + 1) cs es
+    on_more t m = record { goes = goes_to (Ok (next.More t)) m; held = (keeps (Ok (next.More t)) m).0 }
 
-    pub on_term : (t : State) → r ≡ next.Term t → Reached text t (i + 1) cs (es ++ (term_of s ∷ []))
-    on_term t m = record { goes = goes_to (next.Term t) m; held = (keeps (next.Term t) m).0 }
+    pub on_term : (t : State) → r ≡ Ok (next.Term t) → Reached text t (i + 1) cs (es ++ (term_of s ∷ []))
+    on_term t m = record { goes = goes_to (Ok (next.Term t)) m; held = (keeps (Ok (next.Term t)) m).0 }
 
-    pub on_constraint : (t : State) → r ≡ next.Constraint t → Reached text t (i + 1) (cs ++ (constraint_of s es ∷ [])) []
-    on_constraint t m = record { goes = goes_to (next.Constraint t) m; held = (keeps (next.Constraint t) m).0 }
+    pub on_constraint : (t : State) → r ≡ Ok (next.Constraint t) → Reached text t (i + 1) (cs ++ (constraint_of s es ∷ [])) []
+    on_constraint t m = record { goes = goes_to (Ok (next.Constraint t)) m; held = (keeps (Ok (next.Constraint t)) m).0 }
 
-    pub on_fault : (f : Fault) → r ≡ next.Refused f → go text begins [] [] ≡ refused f (length cs)
-    on_fault f m = goes_to (next.Refused f) m
+    pub on_fault : (f : Fault) → r ≡ Err f → go text begins [] [] ≡ refused f (length cs)
+    on_fault f m = goes_to (Err f) m
 
   pub at_end : length text ≤ i → go text begins [] [] ≡ closing s cs (ends s.phase s)
   unfolding go

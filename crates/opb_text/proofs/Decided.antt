@@ -8,7 +8,7 @@ use lib.ListN.{length, get_or, length-append}
 use lib.Dec.{eqb}
 use Rattle.meaning.specs.Meaning.{Entry}
 use Rattle.opb_grammar.specs.declared.State.{State}
-use Rattle.std.specs.Prelude.{Option, Some, None, Result, Err}
+use Rattle.std.specs.Prelude.{Option, Some, None, Result, Ok, Err, is_ok, MatchResult, IsErrAnd}
 use Rattle.opb_grammar.specs.declared.Fault.{Fault}
 use Rattle.opb_grammar.specs.declared.Fault.TheVariants.{Count, TooLong}
 use Rattle.opb_grammar.specs.declared.Next.{Next}
@@ -57,6 +57,19 @@ module _ (sentences entries : ℕ) (s : State) (cs : List Constraint) where
 
 -- ---- the loop: `complete` constraints are read
 
+-- a step's answer with its fault made a refusal: what it says of the step
+pub next_is :
+    (Q : Fault → Type 0) (r : Result Next Fault) {x : Result Next Refusal} {n : Next} → MatchResult r (λ m. x ≡ Ok m) Q → is_ok x ≡ is_ok r → x ≡ Ok n →
+    r ≡ Ok n
+next_is Q (Ok m) {x} {n} h v e = let b : m ≡ n = cc in ap Ok b
+next_is Q (Err f) h v e = let b : true ≡ false = sym (ap is_ok e) ∙ v in cc
+
+pub fault_is :
+    (Q : Fault → Refusal → Type 0) (r : Result Next Fault) {x : Result Next Refusal} {e : Refusal} →
+    MatchResult r (λ m. x ≡ Ok m) (λ f. IsErrAnd x (Q f)) → is_ok x ≡ is_ok r → x ≡ Err e → (f : Fault) × (r ≡ Err f) × Q f e
+fault_is Q (Ok m) {x} {e} h v q = let b : false ≡ true = sym (ap is_ok q) ∙ v in cc
+fault_is Q (Err f) {x} {e} h v q = (f, refl, subst (λ (y : Result Next Refusal). IsErrAnd y (Q f)) q h)
+
 abbrev the_refusal : Fault → ℕ → Result Read Refusal
 the_refusal f k = Err (refusal.Text f k)
 
@@ -75,12 +88,12 @@ module _ {text : List ℕ} {s : State} {k i : ℕ} (so : Sofar text s k i) where
   pub sound_here : StateSound s
   sound_here = sound s so.cs so.es so.reached.held
 
-  module _ (h : i < length text) {r : Next} (q : r ≡ step s (get_or text i 0)) where
-    pub more : (t : State) → r ≡ next.More t → Sofar text t k (i + 1)
+  module _ (h : i < length text) {r : Result Next Fault} (q : r ≡ step s (get_or text i 0)) where
+    pub more : (t : State) → r ≡ Ok (next.More t) → Sofar text t k (i + 1)
     more t m =
         record { cs = so.cs; es = so.es; reached = on_more so.reached h q t m; number = so.number; few = omega (arith, so.few); short = so.short }
 
-    pub term : (t : State) → r ≡ next.Term t → Sofar text t k (i + 1)
+    pub term : (t : State) → r ≡ Ok (next.Term t) → Sofar text t k (i + 1)
     term t m =
         record {
           cs = so.cs;
@@ -91,7 +104,7 @@ module _ {text : List ℕ} {s : State} {k i : ℕ} (so : Sofar text s k i) where
           short = so.short;
         }
 
-    pub constraint : (t : State) → r ≡ next.Constraint t → Sofar text t (k + 1) (i + 1)
+    pub constraint : (t : State) → r ≡ Ok (next.Constraint t) → Sofar text t (k + 1) (i + 1)
     constraint t m =
         record {
           cs = so.cs ++ (constraint_of s so.es ∷ []);
@@ -102,7 +115,7 @@ module _ {text : List ℕ} {s : State} {k i : ℕ} (so : Sofar text s k i) where
           short = so.short;
         }
 
-    pub fault : (sentences entries : ℕ) (f : Fault) → r ≡ next.Refused f → Err (refusal.Text f k) ≡ read_of sentences entries (reading text)
+    pub fault : (sentences entries : ℕ) (f : Fault) → r ≡ Err f → Err (refusal.Text f k) ≡ read_of sentences entries (reading text)
     fault sentences entries f m =
         sym
         (ap (read_of sentences entries) (not_too_long text so.short ∙ on_fault so.reached h q f m)

@@ -6,15 +6,13 @@ use mathlib.Core.List.{List, [], ◌∷◌, ◌++◌}
 use Prim.Native.Nat.{ℕ, suc, ◌+◌, ◌≤◌, ◌<◌, min}
 use native.Mathlib.Omega.{arith}
 use native.Mathlib.Nat.{min-le_left, min-le_right}
-use lib.ListN.{length, get_or, set, length-append, length-set, drop}
+use lib.ListN.{length, get_or, length-append, drop}
 use lib.Dec.{eqb, ltb}
-use lib.IntN.{ℤ, pos}
 use borrow.Author.Tests.{ltb-false}
 use Rattle.meaning.specs.Meaning.{Entry}
-use Rattle.columns.specs.Columns.{Columns, seven_columns}
-use Rattle.columns.specs.Indexed.{Sizes, sizes}
+use Rattle.columns.specs.Columns.{Columns}
 use Rattle.opb_grammar.specs.declared.State.{State}
-use Rattle.std.specs.Prelude.{Option, Some, None, Ok, Err}
+use Rattle.std.specs.Prelude.{Option, Some, None, Result, Ok, Err}
 use Rattle.opb_grammar.specs.declared.Fault.{Fault}
 use Rattle.opb_grammar.specs.declared.Fault.TheVariants.{Count, TooLong}
 use Rattle.opb_grammar.specs.declared.Next.{Next}
@@ -24,14 +22,16 @@ use Rattle.opb_bytes.specs.Inner.States.{fixed, StateSound}
 use Rattle.opb_text.specs.declared.Read.{Read}
 use Rattle.opb_text.specs.declared.Refusal.TheVariants as refusal
 use Rattle.opb_text.specs.Text.{Constraint, Reading, taken, refused, term_of, constraint_of, closing, go, reading, rows_from, all_entries, columns_of, read_of, over_all, result_of, sentence_room, entry_room, Reads}
-use Rattle.opb_rows.specs.Signed.{signed_of}
-use Rattle.opb_rows.specs.Inner.Rows.{with_rows, RowsRoom}
+use Rattle.opb_rows.specs.declared.ColumnsMut.{ColumnsMut}
+use Rattle.opb_rows.specs.Columns.{held_of, SameColumns}
+use Rattle.opb_rows.specs.Inner.Rows.{with_term, with_rows, TermRoom, RowsRoom}
+use Rattle.opb_rows.proofs.Same.{same_still, same_then}
 use Rattle.opb_text.specs.Inner.States.{Decided}
 use Rattle.opb_text.proofs.Totals.{again, sentences_of, entries_of, constraints_few, all_rows, all_row_entries}
 use Rattle.opb_text.proofs.Keeps.{About, outside, Tracks}
 use Rattle.opb_text.proofs.Limits.{Taken, Leads, may_end, go_leads, limits}
 use Rattle.opb_text.proofs.Course.{Reached, reached_first, sound, keeps, on_more, on_term, on_constraint, on_fault, at_end}
-use Rattle.opb_text.proofs.Fronts.{same_sizes, so_far, none_so_far, all_so_far, rows_long, constraint_put, term_put}
+use Rattle.opb_text.proofs.Fronts.{so_far, none_so_far, all_so_far, constraint_put, term_put}
 
 -- ---- what the first pass told
 
@@ -146,32 +146,33 @@ empty (e ∷ es) h = let b : ⊥ = omega arith in absurd b
 
 -- ---- the loop: `head` is the next constraint's
 
-pub record Filling (text : List ℕ) (old : Columns) (first : ℕ) (now : Columns) (s : State) (head i : ℕ) : Type 0 where
-  pub told : Known text old first
+pub record Filling (text : List ℕ) (old : ColumnsMut) (first : ℕ) (now : ColumnsMut) (s : State) (head i : ℕ) : Type 0 where
+  pub told : Known text (held_of old) first
   pub cs : List Constraint
   pub es : List Entry
   pub reached : Reached text s i cs es
   pub next_head : head ≡ first + length cs
-  pub filled : now ≡ over_all (so_far first cs es) old
-  pub long : sizes now ≡ sizes old
+  pub same : SameColumns old now
+  pub filled : held_of now ≡ over_all (so_far first cs es) (held_of old)
 
 pub few_variables : {text : List ℕ} {old : Columns} {r : Read} → Decided text old r → r.variables ≤ 1024
 few_variables {text} {old} {r} d = let k = known text old r d in omega (arith, k.first_head, (limits text k.variables k.all k.is_read).atoms)
 
-pub first : {text : List ℕ} {old : Columns} {r : Read} (d : Decided text old r) {s : State} → s ≡ begins → Filling text old (r.variables + 1) old s (r.variables + 1) 0
+pub first :
+    {text : List ℕ} {old : ColumnsMut} {r : Read} (d : Decided text (held_of old) r) {s : State} → s ≡ begins →
+    Filling text old (r.variables + 1) old s (r.variables + 1) 0
 first {text} {old} {r} d {s} q =
     record {
-      told = known text old r d;
+      told = known text (held_of old) r d;
       cs = [];
       es = [];
       reached = reached_first text s q;
       next_head = omega arith;
-      filled = none_so_far (r.variables + 1) old;
-      long = refl;
+      same = same_still old;
+      filled = none_so_far (r.variables + 1) (held_of old);
     }
 
-module _ {text : List ℕ} {old : Columns} {f : ℕ} {h k d n : List ℕ} {b v l : List ℤ} {s : State} {head i : ℕ}
-    (so : Filling text old f (seven_columns h k d b n v l) s head i) where
+module _ {text : List ℕ} {old : ColumnsMut} {f : ℕ} {now : ColumnsMut} {s : State} {head i : ℕ} (so : Filling text old f now s head i) where
   pub sound_here : StateSound s
   sound_here = sound s so.cs so.es so.reached.held
 
@@ -193,12 +194,8 @@ module _ {text : List ℕ} {old : Columns} {f : ℕ} {h k d n : List ℕ} {b v l
   leads : (t : State) (j : ℕ) (ds : List Constraint) (fs : List Entry) → Reached text t j ds fs → Taken t so.told.variables so.told.all
   leads t j ds fs re = subst (Leads t) (sym re.goes ∙ goes_to_all) (go_leads (drop j text) t ds fs re.held)
 
-  -- the columns keep their lengths
-  pub same : (size : Sizes → ℕ) → size (sizes (seven_columns h k d b n v l)) ≡ size (sizes old)
-  same size = ap size so.long
-
-  module _ (p : i < length text) {x : Next} (q : x ≡ step s (get_or text i 0)) where
-    pub more : (t : State) → x ≡ next.More t → Filling text old f (seven_columns h k d b n v l) t head (i + 1)
+  module _ (p : i < length text) {x : Result Next Fault} (q : x ≡ step s (get_or text i 0)) where
+    pub more : (t : State) → x ≡ Ok (next.More t) → Filling text old f now t head (i + 1)
     more t m =
         record {
           told = so.told;
@@ -206,29 +203,33 @@ module _ {text : List ℕ} {old : Columns} {f : ℕ} {h k d n : List ℕ} {b v l
           es = so.es;
           reached = on_more so.reached p q t m;
           next_head = so.next_head;
+          same = so.same;
           filled = so.filled;
-          long = so.long;
         }
 
-    entries_left : (t : State) → x ≡ next.Term t → (s.counts.entries < length old.weights) × (s.counts.entries < length old.literals)
+    entries_left : (t : State) → x ≡ Ok (next.Term t) → (s.counts.entries < length old.weights.now) × (s.counts.entries < length old.literals.now)
     entries_left t m =
-        let kept = keeps so.reached p q (next.Term t) m in
+        let kept = keeps so.reached p q (Ok (next.Term t)) m in
         let all = leads t (i + 1) so.cs (so.es ++ (term_of s ∷ [])) (on_term so.reached p q t m) in
         let more : s.counts.entries < t.counts.entries =
         omega (arith, kept.0.entries, kept.2.entries, length-append so.es (term_of s ∷ [])) in
-        let room = both_long old t.counts.entries (omega (arith, all.entries, so.told.entries)) in
+        let room = both_long (held_of old) t.counts.entries (omega (arith, all.entries, so.told.entries)) in
         omega (arith, room)
 
-    pub term_room :
-        (t : State) → x ≡ next.Term t →
-        (s.counts.entries < length v) × (s.counts.entries < length l) × (s.weight.size ≤ 1000000000000000000) × (s.number.size ≤ 1000000000000000000)
+    pub term_room : (t : State) → x ≡ Ok (next.Term t) → TermRoom s (held_of now)
     term_room t m =
-        omega (arith, entries_left t m, same (λ z. z.weights), same (λ z. z.literals), so.reached.held.weight_fits, so.reached.held.number_fits)
+        let left = entries_left t m in
+        record {
+          weights = omega (arith, left.0, so.same.weights.size);
+          literals = omega (arith, left.1, so.same.literals.size);
+          weight_size = so.reached.held.weight_fits;
+          size = so.reached.held.number_fits;
+        }
 
     pub term :
-        (t : State) → x ≡ next.Term t → {v' l' : List ℤ} → v' ≡ set v s.counts.entries (signed_of s.weight) →
-        l' ≡ set l s.counts.entries (pos s.number.size) → Filling text old f (seven_columns h k d b n v' l') t head (i + 1)
-    term t m {v'} {l'} ev el =
+        (t : State) → x ≡ Ok (next.Term t) → {new : ColumnsMut} → SameColumns now new → held_of new ≡ with_term s (held_of now) →
+        Filling text old f new t head (i + 1)
+    term t m a e =
         let left = entries_left t m in
         record {
           told = so.told;
@@ -236,23 +237,20 @@ module _ {text : List ℕ} {old : Columns} {f : ℕ} {h k d n : List ℕ} {b v l
           es = so.es ++ (term_of s ∷ []);
           reached = on_term so.reached p q t m;
           next_head = so.next_head;
+          same = same_then so.same a;
           filled =
-              term_put f s so.cs so.es (keeps so.reached p q (next.Term t) m).2 old so.filled left.0 left.1 ev el;
-          long =
-              same_sizes (same (λ z. z.heads)) (same (λ z. z.kinds)) (same (λ z. z.sides)) (same (λ z. z.bounds)) (same (λ z. z.counts))
-              (ap length ev ∙ length-set v s.counts.entries (signed_of s.weight) ∙ same (λ z. z.weights))
-              (ap length el ∙ length-set l s.counts.entries (pos s.number.size) ∙ same (λ z. z.literals));
+              e ∙ ap (with_term s) so.filled ∙ term_put f s so.cs so.es (keeps so.reached p q (Ok (next.Term t)) m).2 (held_of old) left.0 left.1;
         }
 
-    rows_left : EachLong old s.counts.sentences × (s.counts.entries ≤ length old.weights) × (s.counts.entries ≤ length old.literals)
+    rows_left : EachLong (held_of old) s.counts.sentences × (s.counts.entries ≤ length old.weights.now) × (s.counts.entries ≤ length old.literals.now)
     rows_left =
         let all = leads s i so.cs so.es so.reached in
-        let e = both_long old s.counts.entries (omega (arith, all.entries, so.told.entries)) in
-        (each_long old s.counts.sentences (omega (arith, all.sentences, so.told.sentences)), e.0, e.1)
+        let e = both_long (held_of old) s.counts.entries (omega (arith, all.entries, so.told.entries)) in
+        (each_long (held_of old) s.counts.sentences (omega (arith, all.sentences, so.told.sentences)), e.0, e.1)
 
-    pub rows_room : (t : State) → x ≡ next.Constraint t → RowsRoom s (seven_columns h k d b n v l)
+    pub rows_room : (t : State) → x ≡ Ok (next.Constraint t) → RowsRoom s (held_of now)
     rows_room t m =
-        let w = (keeps so.reached p q (next.Constraint t) m).2 in
+        let w = (keeps so.reached p q (Ok (next.Constraint t)) m).2 in
         let left = rows_left in
         let copies = copies_fit s.equal (entries_of so.cs) s.counts.terms in
         record {
@@ -260,21 +258,21 @@ module _ {text : List ℕ} {old : Columns} {f : ℕ} {h k d n : List ℕ} {b v l
           copies =
               subst (λ (e : ℕ). cond s.equal (s.counts.terms + s.counts.terms) 0 ≤ e)
               (sym (w.entries ∙ ap (λ (t : ℕ). entries_of so.cs + t + again s.equal t) (sym w.open_terms))) copies;
-          heads = omega (arith, left.0.heads, same (λ z. z.heads));
-          kinds = omega (arith, left.0.kinds, same (λ z. z.kinds));
-          sides = omega (arith, left.0.sides, same (λ z. z.sides));
-          bounds = omega (arith, left.0.bounds, same (λ z. z.bounds));
-          counts = omega (arith, left.0.counts, same (λ z. z.counts));
-          weights = omega (arith, left.1, same (λ z. z.weights));
-          literals = omega (arith, left.2, same (λ z. z.literals));
+          heads = omega (arith, left.0.heads, so.same.heads.size);
+          kinds = omega (arith, left.0.kinds, so.same.kinds.size);
+          sides = omega (arith, left.0.sides, so.same.sides.size);
+          bounds = omega (arith, left.0.bounds, so.same.bounds.size);
+          counts = omega (arith, left.0.counts, so.same.counts.size);
+          weights = omega (arith, left.1, so.same.weights.size);
+          literals = omega (arith, left.2, so.same.literals.size);
           size = w.number_fits;
         }
 
     pub constraint :
-        (t : State) → x ≡ next.Constraint t → {h' k' d' n' : List ℕ} {b' v' l' : List ℤ} → seven_columns h' k' d' b' n' v' l' ≡ with_rows s head (seven_columns h k d b n v l) →
-        Filling text old f (seven_columns h' k' d' b' n' v' l') t (head + 1) (i + 1)
-    constraint t m e =
-        let w = (keeps so.reached p q (next.Constraint t) m).2 in
+        (t : State) → x ≡ Ok (next.Constraint t) → {new : ColumnsMut} → SameColumns now new → held_of new ≡ with_rows s head (held_of now) →
+        Filling text old f new t (head + 1) (i + 1)
+    constraint t m a e =
+        let w = (keeps so.reached p q (Ok (next.Constraint t)) m).2 in
         let left = rows_left in
         let c : Constraint = constraint_of s so.es in
         record {
@@ -283,29 +281,29 @@ module _ {text : List ℕ} {old : Columns} {f : ℕ} {h k d n : List ℕ} {b v l
           es = [];
           reached = on_constraint so.reached p q t m;
           next_head = omega (arith, so.next_head, length-append so.cs (c ∷ []));
+          same = same_then so.same a;
           filled =
               e
               ∙ ap (with_rows s head) so.filled
-              ∙ ap (λ (j : ℕ). with_rows s j (over_all (so_far f so.cs so.es) old)) so.next_head
-              ∙ constraint_put f s so.cs so.es w old left.0.heads left.0.kinds left.0.sides left.0.bounds left.0.counts
+              ∙ ap (λ (j : ℕ). with_rows s j (over_all (so_far f so.cs so.es) (held_of old))) so.next_head
+              ∙ constraint_put f s so.cs so.es w (held_of old) left.0.heads left.0.kinds left.0.sides left.0.bounds left.0.counts
               left.1 left.2;
-          long = ap sizes e ∙ rows_long s head (seven_columns h k d b n v l) ∙ so.long;
         }
 
-    pub no_fault : (c : Fault) → x ≡ next.Refused c → {A : Type 0} → A
+    pub no_fault : (c : Fault) → x ≡ Err c → {A : Type 0} → A
     no_fault c m =
         let e : refused c (length so.cs) ≡ taken so.told.variables so.told.all = sym (on_fault so.reached p q c m) ∙ goes_to_all in
         let b : ⊥ = cc in
         absurd b
 
-  pub end : length text ≤ i → seven_columns h k d b n v l ≡ result_of (reading text) old
+  pub end : length text ≤ i → held_of now ≡ result_of (reading text) (held_of old)
   end p =
       let done = closed s so.cs so.told.all so.told.variables (ends s.phase s) (sym (at_end so.reached p) ∙ goes_to_all) in
       let w : Tracks outside (fixed s.phase) s so.cs (length so.es) =
       subst (λ (a : About). Tracks a (fixed s.phase) s so.cs (length so.es)) (may_end s.phase s done.0) so.reached.held in
       so.filled
-      ∙ ap (λ (fs : List Entry). over_all (so_far f so.cs fs) old) (empty so.es w.most)
-      ∙ ap (λ (ds : List Constraint). over_all (so_far f ds []) old) done.1
-      ∙ ap (λ (c : Columns). over_all c old) (all_so_far f so.told.all)
-      ∙ ap (λ (j : ℕ). over_all (columns_of (rows_from j so.told.all)) old) so.told.first_head
-      ∙ ap (λ (x : Reading). result_of x old) (sym so.told.is_read)
+      ∙ ap (λ (fs : List Entry). over_all (so_far f so.cs fs) (held_of old)) (empty so.es w.most)
+      ∙ ap (λ (ds : List Constraint). over_all (so_far f ds []) (held_of old)) done.1
+      ∙ ap (λ (c : Columns). over_all c (held_of old)) (all_so_far f so.told.all)
+      ∙ ap (λ (j : ℕ). over_all (columns_of (rows_from j so.told.all)) (held_of old)) so.told.first_head
+      ∙ ap (λ (x : Reading). result_of x (held_of old)) (sym so.told.is_read)

@@ -5,26 +5,17 @@ use mathlib.Core.List.{List, [], ◌∷◌, ◌++◌, map, map-append, append-ni
 use Prim.Native.Nat.{ℕ, ◌+◌, ◌-◌, ◌≤◌, ◌<◌}
 use native.Mathlib.Omega.{arith}
 use lib.ListN.{length, set, drop, length-map, length-append}
-use lib.Seq.{sets, length-sets, slice, take_at, drop_at}
-use lib.IntN.{ℤ, pos}
+use lib.Seq.{sets, slice, take_at, drop_at}
+use lib.IntN.{ℤ}
 use Rattle.meaning.specs.Meaning.{Entry}
 use Rattle.columns.specs.Columns.{Columns, seven_columns, Written}
-use Rattle.columns.specs.Indexed.{Sizes, sizes}
 use Rattle.opb_grammar.specs.declared.State.{State}
 use Rattle.opb_text.specs.Text.{Constraint, term_of, constraint_of, sum_row, rows_of, rows_from, all_entries, columns_of, over, over_all}
 use Rattle.opb_rows.specs.Signed.{signed_of}
-use Rattle.opb_rows.specs.Inner.Rows.{both, first_row, copied, with_rows}
+use Rattle.opb_rows.specs.Inner.Rows.{both, first_row, copied, with_term, with_rows}
 use Rattle.opb_rows.proofs.Stores.{same_columns, over_sets}
 use Rattle.opb_text.proofs.Totals.{again, entries_of, all_rows, all_row_entries, entries_append, rows_length, rows_more}
 use Rattle.opb_text.proofs.Keeps.{Tracks, inside, behind_relation}
-
-abbrev pub sized : ℕ → ℕ → ℕ → ℕ → ℕ → ℕ → ℕ → Sizes
-sized h k d b n w l = record { heads = h; kinds = k; sides = d; bounds = b; counts = n; weights = w; literals = l }
-
-pub same_sizes :
-    {h h' k k' d d' b b' n n' w w' l l' : ℕ} →
-    h ≡ h' → k ≡ k' → d ≡ d' → b ≡ b' → n ≡ n' → w ≡ w' → l ≡ l' → sized h k d b n w l ≡ sized h' k' d' b' n' w' l'
-same_sizes eh ek ed eb en ew el = cc
 
 -- the columns of these constraints, the first of which has this head, and of these terms of the next
 abbrev pub so_far : ℕ → List Constraint → List Entry → Columns
@@ -66,20 +57,6 @@ module _ {A B : Type 0} (f : B → A) where
   map_both false x y = refl
 
 -- ---- a constraint's rows
-
-copied_long : (s : State) (l : List ℤ) (equal : Bool) → s.equal ≡ equal → length (copied s l) ≡ length l
-copied_long s l true q =
-    rw q
-    (length-sets l (s.counts.entries - s.counts.terms)
-    (slice (s.counts.entries - s.counts.terms - s.counts.terms) (s.counts.entries - s.counts.terms) l))
-copied_long s l false q = rw q
-
-pub rows_long : (s : State) (head : ℕ) (c : Columns) → sizes (with_rows s head c) ≡ sizes c
-rows_long s head c =
-    same_sizes (length-sets c.heads (first_row s) (both s.equal head head)) (length-sets c.kinds (first_row s) (both s.equal 0 0))
-    (length-sets c.sides (first_row s) (both s.equal 0 1)) (length-sets c.bounds (first_row s) (both s.equal (signed_of s.number) (signed_of s.number)))
-    (length-sets c.counts (first_row s) (both s.equal s.counts.terms s.counts.terms)) (copied_long s c.weights s.equal refl)
-    (copied_long s c.literals s.equal refl)
 
 module _ (first : ℕ) (s : State) (cs : List Constraint) (es : List Entry) (w : Tracks behind_relation 14 s cs (length es)) where
   abbrev c : Constraint
@@ -175,11 +152,7 @@ module _ (first : ℕ) (s : State) (cs : List Constraint) (es : List Entry) (w :
       ∙ ap (λ (fs : List Entry). over (map f fs) old) (append_assoc (all_entries (rows_from first cs)) es (term_of s ∷ []))
 
   pub term_put :
-      (old : Columns) {h k d n : List ℕ} {b l v l' v' : List ℤ} → seven_columns h k d b n v l ≡ over_all (so_far first cs es) old →
-      s.counts.entries < length old.weights → s.counts.entries < length old.literals → v' ≡ set v s.counts.entries (signed_of s.weight) →
-      l' ≡ set l s.counts.entries (pos s.number.size) → seven_columns h k d b n v' l' ≡ over_all (so_far first cs (es ++ (term_of s ∷ []))) old
-  term_put old e hw hl ew el =
-      same_columns (ap (λ (x : Columns). x.heads) e) (ap (λ (x : Columns). x.kinds) e) (ap (λ (x : Columns). x.sides) e) (ap (λ (x : Columns). x.bounds) e)
-      (ap (λ (x : Columns). x.counts) e)
-      (ew ∙ ap (λ (x : Columns). set x.weights s.counts.entries (signed_of s.weight)) e ∙ one_put (λ (x : Entry). x.weight) old.weights hw)
-      (el ∙ ap (λ (x : Columns). set x.literals s.counts.entries (pos s.number.size)) e ∙ one_put (λ (x : Entry). x.literal) old.literals hl)
+      (old : Columns) → s.counts.entries < length old.weights → s.counts.entries < length old.literals →
+      with_term s (over_all (so_far first cs es) old) ≡ over_all (so_far first cs (es ++ (term_of s ∷ []))) old
+  term_put old hw hl =
+      same_columns refl refl refl refl refl (one_put (λ (x : Entry). x.weight) old.weights hw) (one_put (λ (x : Entry). x.literal) old.literals hl)

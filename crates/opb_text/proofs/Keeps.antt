@@ -13,7 +13,7 @@ use Rattle.opb_grammar.specs.declared.Phase.{Phase}
 use Rattle.opb_grammar.specs.declared.Phase.TheVariants.{Opening, BeforeV, InV, Middle, BeforeC, InC, AfterReturn, LineStart, Between, Comment, WeightSign, InWeight, BeforeX, BeforeVariable, InVariable, AfterTerm, AfterGreater, AfterRelation, BeforeBound, BoundSign, InBound, AfterBound}
 use Rattle.opb_grammar.specs.declared.Number.{Number}
 use Rattle.opb_grammar.specs.declared.State.{State}
-use Rattle.std.specs.Prelude.{Option, Some, None}
+use Rattle.std.specs.Prelude.{Option, Some, None, Result, Ok, Err}
 use Rattle.opb_grammar.specs.declared.Fault.{Fault}
 use Rattle.opb_grammar.specs.declared.Fault.TheVariants.{Form, Count, TooMany}
 use Rattle.opb_grammar.specs.declared.Next.{Next}
@@ -97,11 +97,11 @@ pub record Grows (s t : State) : Type 0 where
   pub sentences : s.counts.sentences ≤ t.counts.sentences
 
 -- what the next state keeps, and what a term or a constraint that has been passed says of the state before
-abbrev pub Kept : State → List Constraint → List Entry → Next → Type 0
-Kept s cs es (next.More t) = Held t cs es × Grows s t
-Kept s cs es (next.Term t) = Held t cs (es ++ (term_of s ∷ [])) × Grows s t × Tracks inside 14 s cs (length es)
-Kept s cs es (next.Constraint t) = Held t (cs ++ (constraint_of s es ∷ [])) [] × Grows s t × Tracks behind_relation 14 s cs (length es)
-Kept s cs es (next.Refused f) = Unit {0}
+abbrev pub Kept : State → List Constraint → List Entry → Result Next Fault → Type 0
+Kept s cs es (Ok (next.More t)) = Held t cs es × Grows s t
+Kept s cs es (Ok (next.Term t)) = Held t cs (es ++ (term_of s ∷ [])) × Grows s t × Tracks inside 14 s cs (length es)
+Kept s cs es (Ok (next.Constraint t)) = Held t (cs ++ (constraint_of s es ∷ [])) [] × Grows s t × Tracks behind_relation 14 s cs (length es)
+Kept s cs es (Err f) = Unit {0}
 
 -- ---- numbers without a fault
 
@@ -127,34 +127,35 @@ more_fits n b = min-le_right (n.size * 10 + (b - 48)) 1000000000000000000
 
 -- ---- the pieces; u is the state before the byte
 
-either : (P : Next → Type 0) (t : Bool) {x y : Next} → P x → P y → P (cond t x y)
+either : (P : Result Next Fault → Type 0) (t : Bool) {x y : Result Next Fault} → P x → P y → P (cond t x y)
 either P true h g = h
 either P false h g = g
 
-by : (P : Next → Type 0) (t : Bool) {x y : Next} → (t ≡ true → P x) → (t ≡ false → P y) → P (cond t x y)
+by : (P : Result Next Fault → Type 0) (t : Bool) {x y : Result Next Fault} → (t ≡ true → P x) → (t ≡ false → P y) → P (cond t x y)
 by P true h g = h refl
 by P false h g = g refl
 
 module _ (u : State) (cs : List Constraint) (es : List Entry) where
-  abbrev Fine : Next → Type 0
+  abbrev Fine : Result Next Fault → Type 0
   Fine n = Kept u cs es n
 
-  wrong : Fine (next.Refused Form)
+  wrong : Fine (Err Form)
   wrong = tt
 
-  full : Fine (next.Refused TooMany)
+  full : Fine (Err TooMany)
   full = tt
 
-  behind_kept : (f : Option Fault) (n : Next) → (f ≡ None → Fine n) → Fine (behind f n)
+  behind_kept : (f : Option Fault) (n : Result Next Fault) → (f ≡ None → Fine n) → Fine (behind f n)
   unfolding behind
   behind_kept None n h = h refl
   behind_kept (Some f) n h = tt
 
   module _ (m : ℕ) (s : State) (g : Grows u s) where
-    at_kept : (p : Phase) → m ≤ fixed p → Tracks (about p) m s cs (length es) → Fine (next.More (at s p))
+    at_kept : (p : Phase) → m ≤ fixed p → Tracks (about p) m s cs (length es) → Fine (Ok (next.More (at s p)))
     at_kept p l w = omega arith
 
-    number_kept : (p : Phase) (x : Number) → x.size ≤ 1000000000000000000 → m ≤ fixed p → Tracks (about p) m s cs (length es) → Fine (next.More (numbering s p x))
+    number_kept :
+        (p : Phase) (x : Number) → x.size ≤ 1000000000000000000 → m ≤ fixed p → Tracks (about p) m s cs (length es) → Fine (Ok (next.More (numbering s p x)))
     number_kept p x f l w = omega arith
 
     digits_kept : (p : Phase) (b : ℕ) (k : Class) → m ≤ fixed p → Tracks (about p) m s cs (length es) → Fine (digits s p b k)
@@ -209,7 +210,7 @@ module _ (u : State) (cs : List Constraint) (es : List Entry) where
       either Fine (is k Blank) (at_kept 14 u g AfterBound (omega arith) w)
       (either Fine (is k Semicolon) (omega (arith, sentences_more cs (constraint_of u es), entries_more cs (constraint_of u es))) wrong)
 
-  term_kept : variable_fault u ≡ None → Tracks inside 14 u cs (length es) → Fine (next.Term (term u))
+  term_kept : variable_fault u ≡ None → Tracks inside 14 u cs (length es) → Fine (Ok (next.Term (term u)))
   term_kept f w = omega (arith, entry_left u f, length-append es (term_of u ∷ []))
 
 -- ---- the automaton

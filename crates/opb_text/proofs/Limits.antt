@@ -12,7 +12,7 @@ use Rattle.meaning.specs.Meaning.{Entry}
 use Rattle.opb_grammar.specs.declared.Phase.{Phase}
 use Rattle.opb_grammar.specs.declared.Phase.TheVariants.{Opening, BeforeV, InV, Middle, BeforeC, InC, AfterReturn, LineStart, Between, Comment, WeightSign, InWeight, BeforeX, BeforeVariable, InVariable, AfterTerm, AfterGreater, AfterRelation, BeforeBound, BoundSign, InBound, AfterBound}
 use Rattle.opb_grammar.specs.declared.State.{State}
-use Rattle.std.specs.Prelude.{Option, Some, None}
+use Rattle.std.specs.Prelude.{Option, Some, None, Result, Ok, Err}
 use Rattle.opb_grammar.specs.declared.Fault.{Fault}
 use Rattle.opb_grammar.specs.declared.Fault.TheVariants.{Count, TooLong}
 use Rattle.opb_grammar.specs.declared.Next.{Next}
@@ -83,13 +83,13 @@ module _ (s : State) (cs : List Constraint) where
 
 turn_leads :
     (bs : List ℕ) (s : State) (cs : List Constraint) (es : List Entry) → ((t : State) (ds : List Constraint) (fs : List Entry) → Held t ds fs → Leads t (go bs t ds fs)) →
-    (n : Next) → Kept s cs es n → Leads s (after_byte s cs es (go bs) n)
-turn_leads bs s cs es on (next.More t) h = earlier s t (go bs t cs es) h.1 (on t cs es h.0)
-turn_leads bs s cs es on (next.Term t) h =
+    (n : Result Next Fault) → Kept s cs es n → Leads s (after_byte s cs es (go bs) n)
+turn_leads bs s cs es on (Ok (next.More t)) h = earlier s t (go bs t cs es) h.1 (on t cs es h.0)
+turn_leads bs s cs es on (Ok (next.Term t)) h =
     let fs : List Entry = es ++ (term_of s ∷ []) in earlier s t (go bs t cs fs) h.1 (on t cs fs h.0)
-turn_leads bs s cs es on (next.Constraint t) h =
+turn_leads bs s cs es on (Ok (next.Constraint t)) h =
     let ds : List Constraint = cs ++ (constraint_of s es ∷ []) in earlier s t (go bs t ds []) h.1 (on t ds [] h.0)
-turn_leads bs s cs es on (next.Refused f) h = tt
+turn_leads bs s cs es on (Err f) h = tt
 
 pub go_leads : (bs : List ℕ) (s : State) (cs : List Constraint) (es : List Entry) → Held s cs es → Leads s (go bs s cs es)
 unfolding go

@@ -33,11 +33,11 @@ term_of s = record { weight = signed_of s.weight; literal = pos s.number.size }
 abbrev pub constraint_of : State → List Entry → Constraint
 constraint_of s terms = record { terms = terms; equal = s.equal; bound = signed_of s.number }
 
-abbrev pub after_byte : State → List Constraint → List Entry → (State → List Constraint → List Entry → Reading) → Next → Reading
-after_byte s cs es on (next.More t) = on t cs es
-after_byte s cs es on (next.Term t) = on t cs (es ++ (term_of s ∷ []))
-after_byte s cs es on (next.Constraint t) = on t (cs ++ (constraint_of s es ∷ [])) []
-after_byte s cs es on (next.Refused f) = refused f (length cs)
+abbrev pub after_byte : State → List Constraint → List Entry → (State → List Constraint → List Entry → Reading) → Result Next Fault → Reading
+after_byte s cs es on (Ok (next.More t)) = on t cs es
+after_byte s cs es on (Ok (next.Term t)) = on t cs (es ++ (term_of s ∷ []))
+after_byte s cs es on (Ok (next.Constraint t)) = on t (cs ++ (constraint_of s es ∷ [])) []
+after_byte s cs es on (Err f) = refused f (length cs)
 
 -- the end of the text, where C constraints must be complete
 abbrev pub closing : State → List Constraint → Option Fault → Reading

@@ -2,11 +2,12 @@
 #![tactic(auto)]
 
 ghost use Rattle.std.specs.Prelude.{◌≡◌};
-ghost use Rattle.columns.specs.Columns.{seven_columns};
+ghost use Rattle.opb_rows.specs.Columns.{held_of, SameColumns};
 ghost use Rattle.opb_text.specs.Text.{reading, read_of, result_of, refusal_number, refusal_value, Reads};
 ghost use Rattle.opb_text.specs.Inner.States.{answer_at, Decided};
 
 use opb_grammar::{Fault, Next, State};
+use opb_rows::ColumnsMut;
 
 // The sizes of what stands in the columns.
 #[derive(Clone, Copy, Debug, PartialEq, Eq)]
@@ -55,9 +56,7 @@ impl Refusal {
 fn answer(s: State, complete: u64, sentences: u64, entries: u64) -> Result<Read, Refusal>
     ensures { result ≡ answer_at sentences entries s complete }
 {
-    if let Some(fault) = opb_bytes::ends(s) {
-        return Err(Refusal::Text { fault, complete });
-    }
+    opb_bytes::check_end(s).map_err(|fault| Refusal::Text { fault, complete })?;
     if complete != s.sizes.constraints {
         return Err(Refusal::Text {
             fault: Fault::Count,
@@ -95,7 +94,8 @@ fn decide(text: &[u8], sentences: u64, entries: u64) -> Result<Read, Refusal>
     let mut s = opb_bytes::start();
     let mut complete = 0;
     for &b in text {
-        match opb_bytes::step(s, b) {
+        let next = opb_bytes::step(s, b).map_err(|fault| Refusal::Text { fault, complete })?;
+        match next {
             // Stays: two arms. One pattern for both was tried, too slow: it copies the state once more (14 instructions for each byte).
             Next::More(t) => s = t,
             Next::Term(t) => s = t,
@@ -103,7 +103,6 @@ fn decide(text: &[u8], sentences: u64, entries: u64) -> Result<Read, Refusal>
                 complete += 1;
                 s = t;
             }
-            Next::Refused(fault) => return Err(Refusal::Text { fault, complete }),
         }
     }
     answer(s, complete, sentences, entries)
@@ -111,41 +110,29 @@ fn decide(text: &[u8], sentences: u64, entries: u64) -> Result<Read, Refusal>
 
 // ---- second pass: the columns are filled
 
-// Constraint j has head V + j.
-fn fill(
-    text: &[u8],
-    read: Read,
-    heads: &mut [u64],
-    kinds: &mut [u64],
-    sides: &mut [u64],
-    bounds: &mut [i64],
-    counts: &mut [u64],
-    weights: &mut [i64],
-    literals: &mut [i64],
-)
-    requires { Decided text.now (seven_columns heads.old kinds.old sides.old bounds.old counts.old weights.old literals.old) read }
-    ensures { seven_columns heads.new kinds.new sides.new bounds.new counts.new
-        weights.new literals.new ≡ result_of (reading text.now)
-        (seven_columns heads.old kinds.old sides.old bounds.old counts.old weights.old
-        literals.old) }
+// The columns of a text that is taken: constraint j has head V + j.
+fn fill(text: &[u8], read: Read, columns: &mut ColumnsMut<'_>)
+    requires { Decided text.now (held_of columns.old) read }
+    ensures same { SameColumns columns.old columns.new }
+    ensures holds { held_of columns.new ≡ result_of (reading text.now) (held_of columns.old) }
 {
     let mut s = opb_bytes::start();
     let mut head = read.variables + 1;
     for &b in text {
-        match opb_bytes::step(s, b) {
+        let Ok(next) = opb_bytes::step(s, b) else {
+            return;
+        };
+        match next {
             Next::More(t) => s = t,
             Next::Term(t) => {
-                opb_rows::put_term(s, weights, literals);
+                columns.put_term(s);
                 s = t;
             }
             Next::Constraint(t) => {
-                opb_rows::put_rows(
-                    s, head, heads, kinds, sides, bounds, counts, weights, literals,
-                );
+                columns.put_rows(s, head);
                 head += 1;
                 s = t;
             }
-            Next::Refused(_) => return,
         }
     }
 }
@@ -155,31 +142,19 @@ fn fill(
 // A text into the columns that load takes: decided as a whole first, refused by document 01's numbers, and then stored. Words past the
 // result keep their contents, and a refusal leaves all as they were.
 #[tactic(auto, using(crate::proofs::Replies::refused_reply, crate::proofs::Replies::taken_reply))]
-pub fn read_text(
-    text: &[u8],
-    heads: &mut [u64],
-    kinds: &mut [u64],
-    sides: &mut [u64],
-    bounds: &mut [i64],
-    counts: &mut [u64],
-    weights: &mut [i64],
-    literals: &mut [i64],
-) -> Result<Read, Refusal>
-    ensures { Reads text.now (seven_columns heads.old kinds.old sides.old bounds.old
-        counts.old weights.old literals.old)
-        (seven_columns heads.new kinds.new sides.new bounds.new counts.new weights.new
-        literals.new) result }
+pub fn read_text(text: &[u8], columns: &mut ColumnsMut<'_>) -> Result<Read, Refusal>
+    ensures same { SameColumns columns.old columns.new }
+    ensures reads { Reads text.now (held_of columns.old) (held_of columns.new) result }
 {
-    let sentences = heads
+    let sentences = columns
+        .heads
         .len()
-        .min(kinds.len())
-        .min(sides.len())
-        .min(bounds.len())
-        .min(counts.len());
-    let entries = weights.len().min(literals.len());
+        .min(columns.kinds.len())
+        .min(columns.sides.len())
+        .min(columns.bounds.len())
+        .min(columns.counts.len());
+    let entries = columns.weights.len().min(columns.literals.len());
     let read = decide(text, sentences as u64, entries as u64)?;
-    fill(
-        text, read, heads, kinds, sides, bounds, counts, weights, literals,
-    );
+    fill(text, read, columns);
     Ok(read)
 }

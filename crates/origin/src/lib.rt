@@ -9,20 +9,14 @@ ghost use Rattle.causes.specs.Inner.Listing.{Listing};
 
 use calls::Refusal;
 use types::{Counters, Limits};
+use whole::WholeArea;
 
 // The answer on a whole area, and the list.
-fn origin_whole(
-    area: &[u64],
-    lim: Limits,
-    counters: Counters,
-    literal: i64,
-    list: &mut [i64],
-) -> Result<u64, Refusal>
-    requires { Fitting lim × Whole lim area.now (counted counters) }
-    ensures { Listing lim area.now (origin literal) list.old list.new result }
+fn origin_whole(checked: WholeArea<'_>, literal: i64, list: &mut [i64]) -> Result<u64, Refusal>
+    ensures { Listing checked.entry.lim checked.entry.area.now (origin literal) list.old list.new result }
 {
-    let position = located::locate(area, literal)?;
-    origins::list_origins(area, position, list)
+    let position = located::locate(checked.area, literal)?;
+    origins::list_origins(checked.area, position, list)
 }
 
 pub fn origin_within(
@@ -35,8 +29,8 @@ pub fn origin_within(
     requires { Fitting lim }
     ensures { Reports lim area.now (counted counters) (origin literal) list.old list.new (listed_returned result) }
 {
-    if !whole::is_whole(area, lim, counters) {
+    let Some(checked) = whole::whole_area(area, lim, counters) else {
         return Err(Refusal::NotWhole);
-    }
-    origin_whole(area, lim, counters, literal, list)
+    };
+    origin_whole(checked, literal, list)
 }

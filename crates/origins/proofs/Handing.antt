@@ -7,11 +7,12 @@ use Prim.Native.Nat.{ℕ, zero, suc, ◌<◌, ◌≤◌}
 use native.Mathlib.Omega.{arith}
 use lib.ListN.{length, get_or, set, replicate, length-set, length-replicate}
 use Rattle.area.specs.Layout.{atoms_of, sentences_of, length_of}
+use Rattle.trail_check.specs.Inner.Places.{TrailRoom}
 use Rattle.trail_check.proofs.Few.{few_places}
 use Rattle.whole.proofs.Gives.{ready}
 use Rattle.causes.proofs.Gives.{trail_asked}
 use Rattle.marking.specs.Inner.Marks.{Marked, Markable, Reached, Adds}
-use Rattle.chosen.specs.Inner.Chosen.{Choosable, chosen_literals}
+use Rattle.chosen.specs.Inner.Chosen.{chosen_literals}
 use Rattle.origins.specs.Inner.Origins.{OriginsAsked, Blank, origins_at, Choice}
 use Rattle.marking.proofs.Naming.{mark_set, mark_only}
 use Rattle.origins.proofs.Reaching.{chosen_origins}
@@ -38,6 +39,9 @@ module _ (w : List ℕ) (p : ℕ) (asked : OriginsAsked w p) where
   few : len ≤ n
   few = few_places w n len asked.whole.trail_right.atoms
 
+  pub room : TrailRoom w n len
+  room = (trail_asked asked.lim w asked.counters asked.fitting asked.whole).room
+
   small : n ≤ 4096
   small = omega (arith, asked.whole.theory.atoms_high, asked.fitting.atoms)
 
@@ -59,8 +63,8 @@ module _ (w : List ℕ) (p : ℕ) (asked : OriginsAsked w p) where
         room = omega (arith, blank.room);
       }
 
-      pub choosable : Choosable w n len m
-      choosable = record { few = few; words = omega (arith, asked.whole.enough); marks = omega (arith, blank.room) }
+      pub room_left : len ≤ length m
+      room_left = omega (arith, blank.room)
 
     abbrev table : List Bool
     table = set m₀ p true
@@ -72,4 +76,4 @@ module _ (w : List ℕ) (p : ℕ) (asked : OriginsAsked w p) where
     choice m a r e =
         let are : chosen_literals w n m len ≡ origins_at w p =
         chosen_origins asked.lim w asked.counters asked.whole p asked.position table (mark_set m₀ p inside) sole m a len (omega arith) in
-        record { choosable = choosable m (a.size ∙ length-set m₀ p true); literals = are; counted = e ∙ ap length are }
+        record { room = room_left m (a.size ∙ length-set m₀ p true); literals = are; counted = e ∙ ap length are }

@@ -4,18 +4,22 @@
 ghost use Rattle.origins.specs.Inner.Origins.{OriginsAsked, Blank, origins_at, Choice, Handed};
 
 use calls::Refusal;
+use trail_check::Trail;
 
 // Marks what the literal at a position rests on, in a table without marks, and counts the given literals among it.
 fn choose(area: &[u64], position: usize, marks: &mut [bool]) -> usize
     requires { OriginsAsked area.now position × Blank area.now marks.old }
     ensures { Choice area.now position marks.new result }
 {
-    let n = area::atoms_of(area);
-    let sentences = area::sentences_of(area);
-    let rows = area::length_of(area);
+    let sizes = area::sizes_of(area);
+    let trail = Trail {
+        area,
+        n: sizes.atoms,
+        len: area::length_of(area),
+    };
     marks[position] = true;
-    marking::mark(area, n, sentences, position, marks);
-    chosen::count_chosen(area, n, rows, marks)
+    marking::mark(area, sizes, position, marks);
+    chosen::count_chosen(trail, marks)
 }
 
 // The origins of the literal at a position of a whole area's trail, or 18 with their number.
@@ -28,8 +32,11 @@ pub fn list_origins(area: &[u64], position: usize, list: &mut [i64]) -> Result<u
     if list.len() < needed {
         return Err(Refusal::TooShort(needed as u64));
     }
-    let n = area::atoms_of(area);
-    let rows = area::length_of(area);
-    chosen::write_chosen(area, n, rows, &marks, list);
+    let trail = Trail {
+        area,
+        n: area::atoms_of(area),
+        len: area::length_of(area),
+    };
+    chosen::write_chosen(trail, &marks, list);
     Ok(needed as u64)
 }

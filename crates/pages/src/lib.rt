@@ -40,6 +40,7 @@ impl<'a> Page<'a> {
     pub fn put_number(&mut self, n: u64)
         ensures { Puts self.old self.new (decimal n) }
     {
+        // Stays: the bytes are proved, and `write!` promises nothing of them.
         let mut text = [0u8; 20];
         let k = io::decimal(n, &mut text);
         self.put_bytes(&text[..k]);

@@ -35,15 +35,8 @@ pub fn propagate_whole(area: &mut [u64], counters: Counters) -> Propagated
     ensures acts { (lim : Limits) → Usable lim area.old (counted counters) → Acts lim area.old area.new (counted counters) (counted (counters_of result)) propagate (stop_returned result) }
     ensures named { SentenceNamed result }
 {
-    let n = area::atoms_of(area);
-    let sentences = area::sentences_of(area);
-    let end = derive::run(
-        area,
-        n,
-        sentences,
-        counters.length as usize,
-        counters.level.0,
-    );
+    let sizes = area::sizes_of(area);
+    let end = derive::run(area, sizes, counters.length as usize, counters.level.0);
     let length = end.length as u64;
     let put = length - counters.length;
     let next = Counters { length, ..counters };

@@ -16,13 +16,14 @@ use Rattle.meaning.specs.Computed.{extreme}
 use Rattle.area.specs.Layout.{word, record_at, rule_at}
 use Rattle.extremes.specs.declared.Extremes.{Extremes}
 use Rattle.extremes.specs.Inner.Stored.{ExtremesAre}
+use Rattle.extremes.proofs.Stored.{widened}
 use Rattle.theory_check.specs.Theory.{SentenceOk}
 use Rattle.theory_check.proofs.Places.{placed}
 use Rattle.whole.specs.Same.{SameRecord}
 use Rattle.whole.proofs.Frame.{same_record, record_through, SameEntries, entries_behind, rule_same, sentence_same}
 use Rattle.whole.proofs.Trails.{shows_stay}
 use Rattle.refresh.specs.Inner.Refresh.{Refreshable, Untouched, AsBefore, Renewed, SentenceRefreshed, RefreshedTo}
-use Rattle.refresh.specs.Inner.One.{Touchable, OneRefreshed}
+use Rattle.refresh.specs.Inner.One.{TouchReady, OneRefreshed}
 
 pub none_passed : {w : List ℕ} {n S : ℕ} {touched : List ℕ} → RefreshedTo w w n S touched 0
 none_passed = record { size = refl; front = λ i l. refl; behind = λ i l. refl; each = λ k l. absurd (omega arith) }
@@ -67,7 +68,7 @@ module _ {lim : Limits} {w w' : List ℕ} {n S : ℕ} {touched : List ℕ} {s : 
   rule_stays : rule_at w' n S b ≡ rule_at w n S b
   rule_stays = rule_same w w' n S b same entries
 
-  pub next_touchable : Touchable lim w' n S b touched
+  pub next_touchable : TouchReady w' n S b touched
   next_touchable =
       let q = placed lim w n S s ready.places next in
       let o : SentenceOk lim w' n S b = sentence_same w w' n S b same entries lim (ready.each s next) in
@@ -75,17 +76,16 @@ module _ {lim : Limits} {w w' : List ℕ} {n S : ℕ} {touched : List ℕ} {s : 
       let before = same.before in
       let counts = same.counts in
       record {
-        evaluable = record {
-          fitting = ready.fitting;
+        sentence = record {
           atoms_low = ready.atoms_low;
-          atoms_high = ready.atoms_high;
-          sentences = ready.sentences;
+          atoms_high = omega (arith, ready.atoms_high, ready.fitting.atoms);
+          sentences = omega (arith, ready.sentences, ready.fitting.sentences);
           values = omega (arith, q.own);
           own = omega (arith, q.own);
           entries = omega (arith, q.room, q.merged);
-          merged = omega (arith, q.few, q.merged);
+          merged = omega (arith, q.few, q.merged, ready.fitting.each);
           kind = o.kind;
-          rule = o.rule;
+          rule = widened ready.fitting o.rule;
         };
         tag = o.tag;
         table = ready.table;

@@ -12,7 +12,9 @@ ghost use Rattle.calls.specs.Calls.{counted, area_state, extended_of, bounds_ret
 ghost use Rattle.causes.specs.Inner.Listing.{Listing};
 
 use calls::{Bound, Bounds, Refusal};
+use trail_check::Trail;
 use types::{Counters, HALF, Limits, Sentence};
+use whole::WholeArea;
 
 // The word of a value above every number; that of one below every number is 0.
 const TOP: u64 = 2 * HALF;
@@ -31,21 +33,15 @@ fn bound_of(x: u64) -> Bound
 }
 
 // The answer on a whole area: the sentence's stored bounds.
-pub fn bounds_whole(
-    area: &[u64],
-    lim: Limits,
-    counters: Counters,
-    sentence: Sentence,
-) -> Result<Bounds, Refusal>
-    requires { Fitting lim × Whole lim area.now (counted counters) }
-    ensures { bounds_returned result ≡ returned_by (reply (area_state lim area.now) (a_report (bounds sentence.0) 0)).answer }
+pub fn bounds_whole(checked: WholeArea<'_>, sentence: Sentence) -> Result<Bounds, Refusal>
+    ensures { bounds_returned result ≡ returned_by (reply (area_state checked.entry.lim checked.entry.area.now) (a_report (bounds sentence.0) 0)).answer }
 {
-    let n = area::atoms_of(area);
-    let sentences = area::sentences_of(area);
-    if sentence.0 == 0 || sentence.0 > sentences as u64 {
+    let WholeArea { area, .. } = checked;
+    let sizes = area::sizes_of(area);
+    if sentence.0 == 0 || sentence.0 > sizes.sentences as u64 {
         return Err(Refusal::NoSentence);
     }
-    let base = 4 * n + 8 * (sentence.0 - 1) as usize;
+    let base = sizes.record_at((sentence.0 - 1) as usize);
     Ok(Bounds {
         least: bound_of(area::least_at(area, base)),
         greatest: bound_of(area::greatest_at(area, base)),
@@ -61,10 +57,10 @@ pub fn bounds_within(
     requires { Fitting lim }
     ensures { Answered lim area.now (counted counters) (a_report (bounds sentence.0) 0) (bounds_returned result) }
 {
-    if !whole::is_whole(area, lim, counters) {
+    let Some(checked) = whole::whole_area(area, lim, counters) else {
         return Err(Refusal::NotWhole);
-    }
-    bounds_whole(area, lim, counters, sentence)
+    };
+    bounds_whole(checked, sentence)
 }
 
 // Three numbers from `at` on.
@@ -76,11 +72,12 @@ fn write_row(list: &mut [i64], at: usize, literal: i64, level: u64, reason: u64)
 }
 
 // The first rows, three numbers each; the rest of the list keeps its contents.
-fn write_rows(area: &[u64], n: usize, rows: usize, list: &mut [i64])
-    requires { (rows ≤ n) × (4 * n ≤ length area.now) × (3 * rows ≤ length list.old) }
-    ensures { list.new ≡ flat (rows_from area.now n rows) ++ drop (3 * rows) list.old }
+fn write_rows(trail: Trail<'_>, list: &mut [i64])
+    requires { 3 * trail.len ≤ length list.old }
+    ensures { list.new ≡ flat (rows_from trail.entry.area.now trail.entry.n trail.entry.len) ++ drop (3 * trail.entry.len) list.old }
 {
-    for i in 0..rows {
+    let Trail { area, n, len } = trail;
+    for i in 0..len {
         let literal = literals::literal_of(area::literal_at(area, n, i));
         let level = area::row_level(area, n, i);
         let reason = area::row_reason(area, n, i);
@@ -89,22 +86,15 @@ fn write_rows(area: &[u64], n: usize, rows: usize, list: &mut [i64])
 }
 
 // The answer on a whole area, and the list.
-fn trail_whole(
-    area: &[u64],
-    lim: Limits,
-    counters: Counters,
-    list: &mut [i64],
-) -> Result<u64, Refusal>
-    requires { Whole lim area.now (counted counters) }
-    ensures { Listing lim area.now list_trail list.old list.new result }
+fn trail_whole(checked: WholeArea<'_>, list: &mut [i64]) -> Result<u64, Refusal>
+    ensures { Listing checked.entry.lim checked.entry.area.now list_trail list.old list.new result }
 {
-    let n = area::atoms_of(area);
-    let rows = area::length_of(area);
-    let needed = 3 * rows;
+    let trail = checked.trail();
+    let needed = 3 * trail.len;
     if list.len() < needed {
         return Err(Refusal::TooShort(needed as u64));
     }
-    write_rows(area, n, rows, list);
+    write_rows(trail, list);
     Ok(needed as u64)
 }
 
@@ -117,8 +107,8 @@ pub fn list_trail_within(
     requires { Fitting lim }
     ensures { Reports lim area.now (counted counters) list_trail list.old list.new (listed_returned result) }
 {
-    if !whole::is_whole(area, lim, counters) {
+    let Some(checked) = whole::whole_area(area, lim, counters) else {
         return Err(Refusal::NotWhole);
-    }
-    trail_whole(area, lim, counters, list)
+    };
+    trail_whole(checked, list)
 }

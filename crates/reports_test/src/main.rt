@@ -4,16 +4,15 @@
 
 use calls::Refusal;
 use columns::Columns;
-use std::io;
+use std::{array, io};
+use test_parts::M4;
 use types::{Atom, Counters, Sentence};
 
 // The literals given, with no line for each.
 fn give_all(area: &mut [u64], literals: &[i64]) -> Counters {
-    let mut now = Counters::start();
-    for &literal in literals {
-        now = dalelead::give(area, now, literal).unwrap_or(now);
-    }
-    now
+    literals.iter().fold(Counters::start(), |now, &literal| {
+        dalelead::give(area, now, literal).unwrap_or(now)
+    })
 }
 
 // What a list call answers: its code, its value, and the list.
@@ -63,23 +62,6 @@ fn origin(
     show(rt, "origin", answer, list)
 }
 
-fn load_m4(area: &mut [u64]) -> u64 {
-    let answer = dalelead::load(
-        area,
-        Atom(3),
-        Columns {
-            heads: &[3],
-            kinds: &[0],
-            sides: &[1],
-            bounds: &[1],
-            counts: &[2],
-            weights: &[1, 2],
-            literals: &[1, 2],
-        },
-    );
-    test_parts::loaded(answer).0
-}
-
 // The derived literal, with too short a list, a given one, one whose negation is on the trail, and one of no atom.
 fn explained(rt: &impl Print, area: &[u64], counters: Counters) -> io::Result<()> {
     explain(rt, area, counters, -2, &mut [0; 3])?;
@@ -92,7 +74,7 @@ fn explained(rt: &impl Print, area: &[u64], counters: Counters) -> io::Result<()
 fn m4(rt: &impl Print) -> io::Result<()> {
     println!(rt; "M4")?;
     let mut area = [0u64; 24];
-    load_m4(&mut area);
+    let _ = test_parts::load_one(&mut area, Atom(3), M4);
     let given = give_all(&mut area, &[3, 1]);
     let after = test_parts::show_propagate(rt, &mut area, given)?;
     explained(rt, &area, after)?;
@@ -104,7 +86,7 @@ fn m4(rt: &impl Print) -> io::Result<()> {
 fn m5(rt: &impl Print) -> io::Result<()> {
     println!(rt; "M5")?;
     let mut area = [0u64; 24];
-    load_m4(&mut area);
+    let _ = test_parts::load_one(&mut area, Atom(3), M4);
     let given = give_all(&mut area, &[3, 1, 2]);
     let after = test_parts::show_propagate(rt, &mut area, given)?;
     conflict(rt, &area, after, 1, &mut [0; 4])?;
@@ -138,22 +120,10 @@ fn ring(rt: &impl Print) -> io::Result<()> {
 // Diamond d has atoms 3d + 1 above, 3d + 2 and 3d + 3 at its sides, and 3d + 4 below: each side follows from the atom above, and the atom
 // below from both sides. Sentence 3d + j, from 0, has head 3d + j + 2; the atom below has two entries and asks for both.
 fn load_diamonds(area: &mut [u64]) -> u64 {
-    let mut heads = [0u64; 255];
-    let mut bounds = [1i64; 255];
-    let mut counts = [1u64; 255];
-    let mut literals = [0i64; 340];
-    for i in 0..255 {
-        heads[i] = i as u64 + 2;
-    }
-    for d in 0..85 {
-        bounds[3 * d + 2] = 2;
-        counts[3 * d + 2] = 2;
-        let above = 3 * d as i64 + 1;
-        literals[4 * d] = above;
-        literals[4 * d + 1] = above;
-        literals[4 * d + 2] = above + 1;
-        literals[4 * d + 3] = above + 2;
-    }
+    let heads: [u64; 255] = array::from_fn(|i| i as u64 + 2);
+    let bounds: [i64; 255] = array::from_fn(|i| [1, 1, 2][i % 3]);
+    let counts: [u64; 255] = array::from_fn(|i| [1, 1, 2][i % 3]);
+    let literals: [i64; 340] = array::from_fn(|i| 3 * (i as i64 / 4) + [1, 1, 2, 3][i % 4]);
     let answer = dalelead::load(
         area,
         Atom(256),

@@ -15,6 +15,7 @@ use Rattle.types.specs.declared.Counters as t
 use Rattle.book.specs.Rows.{Row}
 use Rattle.book.specs.Table.{propagate, done, Returned, returned_by, State, propagated, Outcome, ended, unchanged, put_on, propagating, following, End, end_at, apart, trying, searching, search_ended, reply, searched, a_step}
 use Rattle.book.specs.Book.{Counters, judged_all}
+use Rattle.book.proofs.Making.{ended_value}
 use Rattle.area.specs.Layout.{atoms_of, level_of, rows_of, theory_of}
 use Rattle.area.specs.Whole.{Whole}
 use Rattle.calls.specs.Calls.{counted, area_state, is_refusal, Moved, Acts}
@@ -62,10 +63,6 @@ by_conflict : (s k n j : ℕ) → ¬ (j ≡ 0) → plain 0 n j ≡ returned_by (
 by_conflict zero k n j d e = absurd (d (ap {A = Returned} (λ p. p.sentence) e))
 by_conflict (suc s) k n j d e = (ap {A = Returned} (λ p. p.sentence) (sym e), ap {A = Returned} (λ p. p.value) (sym e))
 
-value_of : (s k : ℕ) → (returned_by (ended s k)).value ≡ k
-value_of zero k = refl
-value_of (suc s) k = refl
-
 apart_conflict : (k : ℕ) (a b : End) → ¬ (k ≡ 0) → apart k a b ≡ a
 apart_conflict zero a b d = absurd (d refl)
 apart_conflict (suc k) a b d = refl
@@ -94,7 +91,7 @@ module _ (lim : Limits) (w : List ℕ) where
 
     after_few : total + (stop_returned p).value ≤ (counted (counters_of p)).length_is
     after_few =
-        let e : (stop_returned p).value ≡ put_on q = ap {A = Returned} (λ x. x.value) told ∙ value_of (propagated q).sentence (put_on q) in
+        let e : (stop_returned p).value ≡ put_on q = ap {A = Returned} (λ x. x.value) told ∙ ended_value (propagated q).sentence (put_on q) in
         let f : length (rows_of w') ≡ length (propagated q).rows = ap {A = List Row} length moves.rows in
         omega (arith, e, f, longer, g.few, rows_count lim w c g.moved.whole, rows_count lim w' (counted (counters_of p)) moves.whole)
 

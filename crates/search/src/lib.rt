@@ -77,6 +77,7 @@ pub fn search_whole(area: &mut [u64], lim: Limits, counters: Counters, literals:
     let mut gone: usize = 0;
     let mut total: u64 = 0;
     let mut current = counters;
+    // Stays: a `loop`, left by what propagate answers: how many turns there are is known to the proof alone.
     loop {
         let answer = propagate::propagate_whole(area, current);
         let Propagated::Still(count, after) = answer else {

@@ -4,25 +4,24 @@
 ghost use Rattle.std.specs.Prelude.{◌≡◌, ◌≤◌};
 ghost use Rattle.types.specs.Limits.{widest};
 ghost use Rattle.columns.specs.Answers.{fault_in};
-ghost use Rattle.columns.specs.Indexed.{column_code};
+ghost use Rattle.columns.specs.Indexed.{lent_code};
 
-use columns::Fault;
+use columns::{Fault, SentenceColumns};
 use kinds::Kind;
 use types::Limits;
 
-pub fn check_sentence(
-    lim: Limits,
-    n: u64,
-    head: u64,
-    kind: u64,
-    side: u64,
-    bound: i64,
-    weights: &[i64],
-    literals: &[i64],
-) -> Result<(), Fault>
+pub fn check_sentence(lim: Limits, n: u64, sentence: SentenceColumns<'_>) -> Result<(), Fault>
     requires { n ≤ widest.atoms }
-    ensures { fault_in result ≡ column_code lim n head kind side bound weights.now literals.now }
+    ensures { fault_in result ≡ lent_code lim n sentence.entry }
 {
+    let SentenceColumns {
+        head,
+        kind,
+        side,
+        bound,
+        weights,
+        literals,
+    } = sentence;
     let Ok(known) = Kind::try_from(kind) else {
         return Err(Fault::Unknown);
     };

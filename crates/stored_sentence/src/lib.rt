@@ -2,9 +2,11 @@
 #![tactic(auto)]
 
 ghost use Rattle.kinds.specs.Kinds.{meant};
-ghost use Rattle.columns.specs.Columns.{written_as};
+ghost use Rattle.columns.specs.Columns.{held_sentence};
 ghost use Rattle.stored_sentence.specs.Inner.Sentences.{MergeAsked, MergedAt, Storable, Stored};
 
+use area::Sizes;
+use columns::SentenceColumns;
 use gather::Merged;
 use kinds::Kind;
 
@@ -17,25 +19,27 @@ fn merge_at(area: &mut [u64], at: usize, kind: Kind, weights: &[i64], literals: 
     merge::merge_into(&mut area[at..end], kind, weights, literals)
 }
 
-// Sentence s, from 0, of `all`: its record and its merged entries, behind the `before` entries of the sentences before it.
+// Sentence s, from 0: its record and its merged entries, behind the `before` entries of the sentences before it.
 pub fn store_one(
     area: &mut [u64],
-    n: usize,
-    all: usize,
+    sizes: Sizes,
     s: usize,
     before: usize,
-    head: u64,
-    kind: u64,
-    side: u64,
-    bound: i64,
-    weights: &[i64],
-    literals: &[i64],
+    sentence: SentenceColumns<'_>,
 )
-    requires { Storable area.old n all s before head kind side bound weights.now literals.now }
-    ensures { Stored area.old area.new n all s before (written_as head kind side bound weights.now literals.now) }
+    requires { Storable area.old sizes.atoms sizes.sentences s before sentence.head sentence.kind sentence.side sentence.bound sentence.weights.now sentence.literals.now }
+    ensures { Stored area.old area.new sizes.atoms sizes.sentences s before (held_sentence sentence.entry) }
 {
-    let own = 4 * n + 8 * s;
-    let at = 4 * n + 8 * all + 2 * before;
+    let SentenceColumns {
+        head,
+        kind,
+        side,
+        bound,
+        weights,
+        literals,
+    } = sentence;
+    let own = sizes.record_at(s);
+    let at = sizes.record_at(sizes.sentences) + 2 * before;
     let set = merge_at(area, at, Kind::numbered(kind), weights, literals);
     let b = entry_words::number_word(bound);
     area[own..own + 8].copy_from_slice(&[

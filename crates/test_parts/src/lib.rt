@@ -1,11 +1,31 @@
-// What the test programs share: what is given and propagated, printed in lines, and rings of sentences.
+// What the test programs share: one sentence loaded, what is given and propagated, printed in lines, and rings of sentences.
 #![tactic(auto)]
 
 use calls::Refusal;
-use columns::Columns;
+use columns::{Columns, SentenceColumns};
 use propagate::Propagated;
-use std::io;
+use std::{array, io};
 use types::{Atom, Counters};
+
+// M4: head 3, sum {(1,1),(2,2)} <= 1.
+pub const M4: SentenceColumns<'static> = SentenceColumns {
+    head: 3,
+    kind: 0,
+    side: 1,
+    bound: 1,
+    weights: &[1, 2],
+    literals: &[1, 2],
+};
+
+pub const NO_SENTENCES: Columns<'static> = Columns {
+    heads: &[],
+    kinds: &[],
+    sides: &[],
+    bounds: &[],
+    counts: &[],
+    weights: &[],
+    literals: &[],
+};
 
 // 0, or the refusal's number.
 pub fn code<T: Copy>(answer: Result<T, Refusal>) -> u64 {
@@ -26,6 +46,26 @@ pub fn loaded(answer: Result<Counters, columns::Refusal>) -> (u64, u64) {
     }
 }
 
+pub fn load_one(
+    area: &mut [u64],
+    atoms: Atom,
+    sentence: SentenceColumns<'_>,
+) -> Result<Counters, columns::Refusal> {
+    dalelead::load(
+        area,
+        atoms,
+        Columns {
+            heads: &[sentence.head],
+            kinds: &[sentence.kind],
+            sides: &[sentence.side],
+            bounds: &[sentence.bound],
+            counts: &[sentence.weights.len() as u64],
+            weights: sentence.weights,
+            literals: sentence.literals,
+        },
+    )
+}
+
 pub fn give_one(
     rt: &impl Print,
     area: &mut [u64],
@@ -38,11 +78,11 @@ pub fn give_one(
 }
 
 pub fn give_all(rt: &impl Print, area: &mut [u64], literals: &[i64]) -> io::Result<Counters> {
-    let mut now = Counters::start();
-    for &literal in literals {
-        now = give_one(rt, area, now, literal)?;
-    }
-    Ok(now)
+    literals
+        .iter()
+        .try_fold(Counters::start(), |now, &literal| {
+            give_one(rt, area, now, literal)
+        })
 }
 
 pub fn show_propagate(
@@ -86,14 +126,8 @@ pub fn load_two(area: &mut [u64]) -> u64 {
 
 // A ring of 256: sentence i has head i and in its set atom i + 1; the last has the first. Answers the load's number.
 pub fn load_ring(area: &mut [u64]) -> u64 {
-    let mut heads = [0u64; 256];
-    let mut literals = [1i64; 256];
-    for i in 0..256 {
-        heads[i] = i as u64 + 1;
-    }
-    for i in 0..255 {
-        literals[i] = i as i64 + 2;
-    }
+    let heads: [u64; 256] = array::from_fn(|i| i as u64 + 1);
+    let literals: [i64; 256] = array::from_fn(|i| (i as i64 + 1) % 256 + 1);
     let answer = dalelead::load(
         area,
         Atom(256),

@@ -4,10 +4,11 @@
 ghost use Rattle.std.specs.Prelude.{◌+◌, ◌*◌, ◌≤◌, length};
 ghost use Rattle.types.specs.Limits.{widest, Fitting};
 ghost use Rattle.decide.specs.Inner.Tells.{Tells};
-ghost use Rattle.area.specs.Layout.{written_at};
+ghost use Rattle.area.specs.Layout.{record_at, written_at};
 ghost use Rattle.theory_check.specs.Theory.{PlacesOk, Checkable, Checked};
 ghost use Rattle.theory_check.specs.Inner.Words.{RecordOk};
 
+use area::Sizes;
 use kinds::Kind;
 use types::Limits;
 
@@ -16,13 +17,13 @@ const BOUND: u64 = Limits::BOUND as u64;
 
 // Each sentence's entries stand behind those before it, and there is room for all.
 #[tactic(auto, using(crate::proofs::Places::counted))]
-pub fn places_ok(area: &[u64], lim: Limits, n: usize, sentences: usize) -> bool
-    requires { Fitting lim × (n ≤ lim.atoms) × (sentences ≤ lim.sentences) × (4 * n + 8 * sentences ≤ length area.now) }
-    ensures { Tells result (PlacesOk lim area.now n sentences) }
+pub fn places_ok(area: &[u64], lim: Limits, sizes: Sizes) -> bool
+    requires { Fitting lim × (sizes.atoms ≤ lim.atoms) × (sizes.sentences ≤ lim.sentences) × (record_at sizes.atoms sizes.sentences ≤ length area.now) }
+    ensures { Tells result (PlacesOk lim area.now sizes.atoms sizes.sentences) }
 {
     let mut before: u64 = 0;
-    for s in 0..sentences {
-        let base = 4 * n + 8 * s;
+    for s in 0..sizes.sentences {
+        let base = sizes.record_at(s);
         let written = area::written_at(area, base);
         if area::before_at(area, base) != before
             || written as u64 > lim.each
@@ -32,7 +33,7 @@ pub fn places_ok(area: &[u64], lim: Limits, n: usize, sentences: usize) -> bool
         }
         before += written as u64;
     }
-    before <= lim.entries && area.len() >= 4 * n + 8 * sentences + 2 * before as usize
+    before <= lim.entries && area.len() >= sizes.record_at(sizes.sentences) + 2 * before as usize
 }
 
 fn record_ok(area: &[u64], n: u64, base: usize) -> bool
@@ -54,19 +55,18 @@ fn record_ok(area: &[u64], n: u64, base: usize) -> bool
 pub fn sentence_ok(
     area: &[u64],
     lim: Limits,
-    n: usize,
-    sentences: usize,
+    sizes: Sizes,
     base: usize,
     seen: &mut [u16],
     old: u16,
 ) -> bool
-    requires { Checkable lim area.now n sentences base seen.old old }
-    ensures { Checked lim area.now n sentences base seen.new old result }
+    requires { Checkable lim area.now sizes.atoms sizes.sentences base seen.old old }
+    ensures { Checked lim area.now sizes.atoms sizes.sentences base seen.new old result }
 {
-    let at = area::entry_at(area, n, sentences, base);
+    let at = area::entry_at(area, sizes, base);
     let merged = area::merged_at(area, base);
     let written = area::written_at(area, base);
-    record_ok(area, n as u64, base)
-        && entries_check::entries_by_kind(area, n as u64, base, at, seen, old)
+    record_ok(area, sizes.atoms as u64, base)
+        && entries_check::entries_by_kind(area, sizes.atoms as u64, base, at, seen, old)
         && area::blank(area, at + 2 * merged, at + 2 * written)
 }

@@ -12,7 +12,7 @@ pub const HALF: u64 = 4_611_686_018_427_387_904;
 #[derive(Clone, Copy, Debug, PartialEq, Eq)]
 pub struct Atom(pub u64);
 
-// A sentence, counted from 1; 0 where there is none.
+// A sentence, counted from 1; 0 in the answer to a load that is refused for none.
 #[derive(Clone, Copy, Debug, PartialEq, Eq)]
 pub struct Sentence(pub u64);
 
@@ -41,6 +41,8 @@ impl Counters {
 
 // The limits of a caller: atoms, sentences, written entries, written entries in one sentence, and the highest level.
 #[derive(Clone, Copy, Debug, PartialEq, Eq)]
+// Stays: that limits fit is a clause of functions: a law of this type would ask more of those that take any limits, and a second type beside
+// it would be no plainer.
 pub struct Limits {
     pub atoms: u64,
     pub sentences: u64,

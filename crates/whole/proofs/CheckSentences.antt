@@ -12,6 +12,7 @@ use Rattle.types.specs.declared.Limits.{Limits}
 use Rattle.decide.proofs.Tells.{told_yes}
 use Rattle.area.specs.Layout.{record_at}
 use Rattle.extremes.specs.Inner.Stored.{Shows, EvaluateReady}
+use Rattle.extremes.proofs.Stored.{widened}
 use Rattle.entries_check.specs.Inner.Entries.{Stamps}
 use Rattle.theory_check.specs.Theory.{SentenceOk, Checkable}
 use Rattle.theory_check.proofs.Places.{placed}
@@ -34,7 +35,19 @@ module _ {lim : Limits} {w : List ℕ} {n S : ℕ} (asked : SentencesAsked lim w
     checkable seen stamps = let p = placed lim w n S s asked.places l in search arith
 
     pub ready : SentenceOk lim w n S (record_at n s) → EvaluateReady w n S (record_at n s)
-    ready ok = let p = placed lim w n S s asked.places l in (lim, search arith)
+    ready ok =
+        let p = placed lim w n S s asked.places l in
+        record {
+          atoms_low = asked.atoms_low;
+          atoms_high = omega (arith, asked.atoms_high, asked.fitting.atoms);
+          sentences = omega (arith, asked.sentences, asked.fitting.sentences);
+          values = omega (arith, p.own);
+          own = omega (arith, p.own);
+          entries = omega (arith, p.room, p.merged);
+          merged = omega (arith, p.few, p.merged, asked.fitting.each);
+          kind = ok.kind;
+          rule = widened asked.fitting ok.rule;
+        }
 
     pub one_passed : {r : Bool} (seen after : List ℕ) → Passed lim w n S s seen → Stamps after (s + 1)
         → SentenceOk lim w n S (record_at n s) → TellsOver w n r (Matching w n S (record_at n s)) → r ≡ true → Passed lim w n S (s + 1) after

@@ -1,11 +1,12 @@
 -- Where literals stand among the first rows of the stored trail: the literal of an atom, and a literal given by a caller.
-use Rattle.std.specs.Prelude.{◌≡◌, true, false, List, ◌∷◌, ℕ, ◌<◌, ◌≤◌, ℤ, Option, MatchOption}
+use Rattle.std.specs.Prelude.{◌≡◌, true, false, List, ◌∷◌, ℕ, ◌<◌, ◌≤◌, ℤ, Option, MatchOption, get_or}
 use Rattle.meaning.specs.Meaning.{same}
+use Rattle.meaning.specs.Merge.{scope}
 use Rattle.book.specs.Rows.{trail, pick, row_of, any}
-use Rattle.area.specs.Layout.{value_at, row_at, rows_from, value_word}
+use Rattle.area.specs.Layout.{value_at, row_at, rows_from, value_word, rule_at}
 use Rattle.area.specs.Whole.{AtomsOnce}
 use Rattle.trail_check.specs.Inner.Places.{TrailRoom}
-use Rattle.extremes.specs.Inner.Stored.{EvaluateReady}
+use Rattle.extremes.specs.declared.evaluable.Evaluable.{Evaluable}
 
 -- ---- what is asked
 
@@ -15,9 +16,8 @@ pub record TrailAsked (w : List ℕ) (n len : ℕ) : Type 0 where
   pub atoms : AtomsOnce n (rows_from w n len)
   pub values : (a : ℕ) → 1 ≤ a → a ≤ n → value_at w n a ≡ value_word (rows_from w n len) a
 
--- the first `limit` rows are of such a trail, and the sentence at b, of S sentences, can be evaluated
-pub record CausesAsked (w : List ℕ) (n S b limit : ℕ) : Type 0 where
-  pub sentence : EvaluateReady w n S b
+-- the first `limit` rows are of such a trail
+pub record CausesAsked (w : List ℕ) (n limit : ℕ) : Type 0 where
   pub rows : ℕ
   pub trail_asked : TrailAsked w n rows
   pub few : limit ≤ rows
@@ -42,6 +42,13 @@ pub record CauseStands (w : List ℕ) (n a limit p : ℕ) : Type 0 where
 -- where the literal of atom a stands among the first `limit` rows, or none where it is not among them
 abbrev pub CauseAt : List ℕ → ℕ → ℕ → ℕ → Option ℕ → Type 0
 CauseAt w n a limit r = MatchOption r ((rest : List ℤ) → pick (before w n limit) a rest ≡ rest) (λ p. CauseStands w n a limit p)
+
+-- the atom at a place of the sentence: 0 its head, j its merged entry j from 1
+abbrev pub atom_of : Evaluable → ℕ → ℕ
+atom_of s place = get_or (scope (rule_at s.area.now s.sizes.atoms s.sizes.sentences s.base)) place 0
+
+abbrev pub CauseOf : Evaluable → (place limit : ℕ) → Option ℕ → Type 0
+CauseOf s place limit r = CauseAt s.area.now s.sizes.atoms (atom_of s place) limit r
 
 -- the literal l stands at position p, among the first len rows
 pub record Stands (w : List ℕ) (n : ℕ) (l : ℤ) (len p : ℕ) : Type 0 where

@@ -11,21 +11,21 @@ loop-i-init c = (ap length (sym (none_chosen _ _ _)), none_written _ _ _ _)
 
 pub bounds-list-at : goal.bounds-list-at
 bounds-list-at c =
-    room _ c.args.n _ c.loop-i.i c.args.rows _ _ c.loop-i.invariant.1 (omega arith) c.requires.1 c.in-Some.literal c.in-Some.ensures c.loop-i.at
+    room _ c.args.trail.n _ c.loop-i.i c.args.trail.len _ _ c.loop-i.invariant.1 (omega arith) c.requires.1 c.in-Some.literal c.in-Some.ensures c.loop-i.at
     c.loop-i.invariant.0
 
 pub loop-i-preserved : goal.loop-i-preserved
 loop-i-preserved c =
-    let below : c.loop-i.i < c.args.rows = omega arith in
+    let below : c.loop-i.i < c.args.trail.len = omega arith in
     elim c.match-chosen_at.branch [
       | in-Some w ↦ rw (w.at-is, w.list-is, to_z-of_z w64 w.in-Some.literal (search rules)) (
-        at_next _ c.args.n _ c.loop-i.i c.args.rows _ _ c.loop-i.invariant.1 below c.requires.1 w.in-Some.literal
+        at_next _ c.args.trail.n _ c.loop-i.i c.args.trail.len _ _ c.loop-i.invariant.1 below c.requires.1 w.in-Some.literal
             w.in-Some.ensures c.loop-i.at c.loop-i.invariant.0,
-        one_written _ c.args.n _ c.loop-i.i c.args.rows _ _ c.loop-i.invariant.1 below c.requires.1 w.in-Some.literal
+        one_written _ c.args.trail.n _ c.loop-i.i c.args.trail.len _ _ c.loop-i.invariant.1 below c.requires.1 w.in-Some.literal
             w.in-Some.ensures c.loop-i.at c.loop-i.invariant.0,
       )
       | in_default w ↦ rw (w.at-is, w.list-is) (
-        c.loop-i.invariant.0 ∙ sym (same_length _ c.args.n _ c.loop-i.i w.in_default.ensures),
-        same_written _ c.args.n _ c.loop-i.i _ _ w.in_default.ensures c.loop-i.invariant.1,
+        c.loop-i.invariant.0 ∙ sym (same_length _ c.args.trail.n _ c.loop-i.i w.in_default.ensures),
+        same_written _ c.args.trail.n _ c.loop-i.i _ _ w.in_default.ensures c.loop-i.invariant.1,
       )
     ]

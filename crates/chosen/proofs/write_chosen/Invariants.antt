@@ -5,4 +5,4 @@ use Rattle.chosen.proofs.Chosen.{Written}
 use Rattle.chosen.proofs.write_chosen.Given as goal
 
 abbrev pub invariant-loop-i : goal.invariant-loop-i
-invariant-loop-i l = (l.at ≡ length (chosen_literals l.area l.n l.marks l.i)) × Written l.area l.n l.marks l.i l.initial.list l.list
+invariant-loop-i l = (l.at ≡ length (chosen_literals l.trail.area.now l.trail.n l.marks l.i)) × Written l.trail.area.now l.trail.n l.marks l.i l.initial.list l.list

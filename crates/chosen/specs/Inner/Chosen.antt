@@ -1,13 +1,8 @@
 -- The given literals of the marked positions, and a list with literals at its front.
 use Rattle.std.specs.Prelude.{◌≡◌, Bool, true, false, cond, ◌&&◌, Option, MatchOption}
-use Rattle.std.specs.Prelude.{List, [], ◌∷◌, ◌++◌, ℕ, zero, suc, ◌*◌, ◌≤◌, ℤ, length, get_or, drop, eqb}
+use Rattle.std.specs.Prelude.{List, [], ◌∷◌, ◌++◌, ℕ, zero, suc, ℤ, length, get_or, drop, eqb}
 use Rattle.area.specs.Layout.{row_at}
-
--- the first rows of an area of n atoms, and a mark for each
-pub record Choosable (w : List ℕ) (n rows : ℕ) (m : List Bool) : Type 0 where
-  pub few : rows ≤ n
-  pub words : 4 * n ≤ length w
-  pub marks : rows ≤ length m
+use Rattle.trail_check.specs.declared.Trail.{Trail}
 
 -- position i is marked, and its literal was given
 abbrev pub origin_marked : List ℕ → ℕ → List Bool → ℕ → Bool
@@ -21,6 +16,10 @@ ChosenAt w n m i r = MatchOption r (origin_marked w n m i ≡ false) (λ z. (ori
 unfoldable pub chosen_literals : List ℕ → ℕ → List Bool → ℕ → List ℤ
 chosen_literals w n m zero = []
 chosen_literals w n m (suc k) = cond (origin_marked w n m k) (chosen_literals w n m k ++ ((row_at w n k).literal ∷ [])) (chosen_literals w n m k)
+
+-- of a trail
+abbrev pub chosen_of : Trail → List Bool → List ℤ
+chosen_of t m = chosen_literals t.area.now t.n m t.len
 
 -- ls at the front of a list, and the rest of it as it was
 abbrev pub in_front : List ℤ → List ℤ → List ℤ

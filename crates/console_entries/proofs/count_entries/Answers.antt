@@ -1,9 +1,12 @@
 -- By what is counted and what is left.
-use Rattle.console_entries.proofs.Entries.{no_word, none_counted, all_counted}
+use Rattle.console_entries.proofs.Entries.{none_counted, all_counted, not_counted}
 use Rattle.console_entries.proofs.count_entries.Goals as goal
 
-pub loop-rest-init : goal.loop-rest-init
-loop-rest-init c = none_counted c.args.line.now
+pub loop-behind-init : goal.loop-behind-init
+loop-behind-init c = none_counted c.args.line.now
 
-pub returns : goal.returns
-returns c = all_counted _ _ _ c.loop-rest.invariant (no_word _ _ c.split_word.ensures c.loop-rest-test.ensures)
+pub returns-in-None : goal.returns-in-None
+returns-in-None c = all_counted _ _ _ c.loop-behind.invariant c.in-None.ensures
+
+pub returns-in-Some-split_word : goal.returns-in-Some-split_word
+returns-in-Some-split_word c = not_counted _ _ _ c.loop-behind.invariant c.in-Some-split_word.ensures.words_are c.in_default.ensures

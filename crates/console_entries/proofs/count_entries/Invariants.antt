@@ -3,8 +3,8 @@ use Rattle.std.proofs.Common.{length}
 use Rattle.console_entries.proofs.Entries.{Counted}
 use Rattle.console_entries.proofs.count_entries.Given as goal
 
-abbrev pub invariant-loop-rest : goal.invariant-loop-rest
-invariant-loop-rest l = Counted l.line l.n l.rest
+abbrev pub invariant-loop-behind : goal.invariant-loop-behind
+invariant-loop-behind l = Counted l.line l.n l.rest
 
-abbrev pub decreases-loop-rest : goal.decreases-loop-rest
-decreases-loop-rest l = length l.rest
+abbrev pub decreases-loop-behind : goal.decreases-loop-behind
+decreases-loop-behind l = length l.rest

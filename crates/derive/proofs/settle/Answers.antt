@@ -9,7 +9,7 @@ pub loop-s-init : goal.loop-s-init
 loop-s-init c = none_settled _ _
 
 pub loop-s-preserved : goal.loop-s-preserved
-loop-s-preserved c = rw c.clear_pending.ensures (one_settled _ c.args.n c.loop-s.area c.loop-s.s (omega arith) c.loop-s.invariant)
+loop-s-preserved c = rw (c.clear_pending.ensures, c.record_at.ensures) (one_settled _ c.args.sizes.atoms c.loop-s.area c.loop-s.s (omega arith) c.loop-s.invariant)
 
 pub returns : goal.returns
-returns c = let e : c.loop-s.s ≡ c.args.sentences = omega arith in subst (Settled _ _ c.args.n) e c.loop-s.invariant
+returns c = let e : c.loop-s.s ≡ c.args.sizes.sentences = omega arith in subst (Settled _ _ c.args.sizes.atoms) e c.loop-s.invariant

@@ -3,4 +3,4 @@ use Rattle.derive.specs.Inner.Settle.{Settled}
 use Rattle.derive.proofs.settle.Given as goal
 
 abbrev pub invariant-loop-s : goal.invariant-loop-s
-invariant-loop-s l = Settled l.initial.area l.area l.n l.s
+invariant-loop-s l = Settled l.initial.area l.area l.sizes.atoms l.s

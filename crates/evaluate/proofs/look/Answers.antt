@@ -7,11 +7,11 @@ use Rattle.evaluate.proofs.Unscanned.{known_open, known_fixed}
 use Rattle.evaluate.proofs.look.Goals as goal
 
 pub limit_at-limit-requires : goal.limit_at-limit-requires
-limit_at-limit-requires c = (omega arith, bound_high c.requires.evaluate_ready)
+limit_at-limit-requires c = (omega arith, bound_high c.args.sentence.ready)
 
 pub returns-then-v-eq0 : goal.returns-then-v-eq0
 returns-then-v-eq0 c =
-    let value : value_at c.args.area.now c.args.n (head_at c.args.area.now c.args.base) ≡ 0 = cc in
+    let value : value_at c.args.sentence.area.now c.args.sentence.sizes.atoms (head_at c.args.sentence.area.now c.args.sentence.base) ≡ 0 = cc in
     rw (
       c.of_head.ensures,
       c.keep.ensures,
@@ -24,14 +24,14 @@ returns-then-v-eq0 c =
       c.upper_at-upper.ensures,
       c.head_at-head.ensures,
     )
-    (known_open c.requires.evaluate_ready c.requires.extremes_are (upper_at c.args.area.now c.args.base) refl value)
+    (known_open c.args.sentence.ready c.requires (upper_at c.args.sentence.area.now c.args.sentence.base) refl value)
 
 pub of_body-requires : goal.of_body-requires
-of_body-requires c = rw (c.entry_at.ensures, c.merged_at.ensures) (entries_at c.kind_at.result c.requires.evaluate_ready c.kind_at.ensures)
+of_body-requires c = rw (c.entry_at.ensures, c.merged_at.ensures) (entries_at c.kind_at.result c.args.sentence.ready c.kind_at.ensures)
 
 pub returns : goal.returns
 returns c =
-    let value : c.value_at-v.result ≡ value_at c.args.area.now c.args.n (head_at c.args.area.now c.args.base) = cc in
+    let value : c.value_at-v.result ≡ value_at c.args.sentence.area.now c.args.sentence.sizes.atoms (head_at c.args.sentence.area.now c.args.sentence.base) = cc in
     rw (c.of_body.ensures, c.towards-2.ensures, c.towards-3.ensures, c.limit_at-limit.ensures, c.entry_at.ensures, c.merged_at.ensures)
-    (known_fixed c.requires.evaluate_ready c.requires.extremes_are c.kind_at.result c.kind_at.ensures c.upwards-up.result
+    (known_fixed c.args.sentence.ready c.requires c.kind_at.result c.kind_at.ensures c.upwards-up.result
     (λ z. c.if-v-eq0.false (value ∙ z)) (sym (rw (c.upper_at-upper.ensures, value) at c.upwards-up.ensures)))

@@ -30,7 +30,7 @@ sentences-preserved c =
 
 pub returns-after-sentences : goal.returns-after-sentences
 returns-after-sentences c =
-    let e : c.sentences.s ≡ c.args.sentences = omega arith in
+    let e : c.sentences.s ≡ c.args.sizes.sentences = omega arith in
     rw c.sentences.invariant.nothing (found_nothing _ _ _ _ e c.sentences.invariant.silent)
 
 pub returns-in-Conflict : goal.returns-in-Conflict

@@ -7,7 +7,7 @@ use Rattle.find.proofs.Speech.{SilentTo}
 use Rattle.find.proofs.find.Given as goal
 
 abbrev pub invariant-sentences : goal.invariant-sentences
-invariant-sentences l = record { nothing : l.found ≡ Nothing; silent : SilentTo l.area l.n l.sentences l.s }
+invariant-sentences l = record { nothing : l.found ≡ Nothing; silent : SilentTo l.area l.sizes.atoms l.sizes.sentences l.s }
 
 abbrev pub invariant-loop-i : goal.invariant-loop-i
-invariant-loop-i l = record { nothing : l.found ≡ Nothing; scanning : Scanning l.body l.area l.n l.i }
+invariant-loop-i l = record { nothing : l.found ≡ Nothing; scanning : Scanning l.body l.area l.sizes.atoms l.i }

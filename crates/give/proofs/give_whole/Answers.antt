@@ -34,7 +34,7 @@ pub advance-requires : goal.advance-requires
 advance-requires c =
     let d = goal.at.advance-requires c in
     let k = free d.In_ok-atom c.requires.0 c.requires.1 in
-    rw (c.atoms_of-n.ensures, c.sentences_of-sentences.ensures, told_word d.After-word_of-word)
+    rw (c.sizes_of-sizes.ensures.atoms, c.sizes_of-sizes.ensures.sentences, told_word d.After-word_of-word)
     (c.requires.0, c.args.counters.level.0, give_advanceable c.requires.0 _ (counted c.args.counters) c.requires.1 c.args.literal k.low k.high k.free)
 
 pub returns : goal.returns
@@ -42,6 +42,6 @@ returns c lim u =
     let d = goal.at.returns c in
     let k = free d.In_ok-atom lim u in
     let had = counted c.args.counters in
-    let advanced = rw (c.atoms_of-n.ensures, c.sentences_of-sentences.ensures, told_word d.After-word_of-word) at c.advance.ensures in
+    let advanced = rw (c.sizes_of-sizes.ensures.atoms, c.sizes_of-sizes.ensures.sentences, told_word d.After-word_of-word) at c.advance.ensures in
     give_done lim _ had u c.args.literal k.low k.high k.free _
     (advanced lim had.level_is (give_advanceable lim _ had u c.args.literal k.low k.high k.free))

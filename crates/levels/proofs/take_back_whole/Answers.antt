@@ -18,7 +18,7 @@ returns-then-to-counters c lim u = take_back_stays _ _ _ _ c.args.to.0 u.fitting
 
 pub cut-left-requires : goal.cut-left-requires
 cut-left-requires c = let u = c.requires.1 in
-    rw c.atoms_of-n.ensures
+    rw c.sizes_of-sizes.ensures.atoms
     (record { lim = c.requires.0; level = c.args.counters.level.0; standing = whole_stands _ _ _ _ u.fitting u.whole }, refl)
 
 -- the level is not above the current one
@@ -33,16 +33,16 @@ set_header-requires c =
 pub refresh-requires : goal.refresh-requires
 refresh-requires c =
     let u = c.requires.1 in
-    let e = c.atoms_of-n.ensures in
+    let e = c.sizes_of-sizes.ensures.atoms in
     let l : c.args.to.0 < c.args.counters.level.0 = let m = not_above ((goal.at.refresh-requires c).In_ok-check_take_back) in omega arith in
-    rw (e, c.sentences_of-sentences.ensures) (
+    rw (e, c.sizes_of-sizes.ensures.sentences) (
       c.requires.0,
       lowered_refreshable _ _ _ _ c.args.to.0 u.fitting u.whole l _ _ _ (rw e at c.cut-left.ensures) _ (rw e at c.set_header.ensures),
     )
 
 pub returns : goal.returns
 returns c lim u =
-    let e = c.atoms_of-n.ensures in
+    let e = c.sizes_of-sizes.ensures.atoms in
     let l : c.args.to.0 < c.args.counters.level.0 = let m = not_above ((goal.at.returns c).In_ok-check_take_back) in omega arith in
     take_back_lowers _ _ _ _ c.args.to.0 u.fitting u.whole l _ _ _ (rw e at c.cut-left.ensures) _ _ (rw e at c.set_header.ensures)
-    (rw (e, c.sentences_of-sentences.ensures) at c.refresh.ensures)
+    (rw (e, c.sizes_of-sizes.ensures.sentences) at c.refresh.ensures)

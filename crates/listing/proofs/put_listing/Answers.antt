@@ -7,11 +7,15 @@ use Rattle.listing.proofs.put_listing.Goals as goal
 pub propagate_whole-stopped-requires : goal.propagate_whole-stopped-requires
 propagate_whole-stopped-requires c = (document, record { fitting = base_fits; whole = c.requires })
 
-pub put_state-requires : goal.put_state-requires
-put_state-requires c =
-    let s = c.propagate_whole-stopped in still_whole s.result c.requires s.ensures.acts c.counters.result c.counters.ensures
+pub invariant_of-whole : goal.invariant_of-whole
+invariant_of-whole c =
+    let s = c.propagate_whole-stopped in
+    record {
+      fitting = rw c.document.ensures base_fits;
+      whole = rw c.document.ensures (still_whole s.result c.requires s.ensures.acts c.counters.result c.counters.ensures);
+    }
 
 pub returns : goal.returns
 returns c =
     let s = c.propagate_whole-stopped in
-    listing_put s.result c.requires s.ensures.acts s.ensures.named c.put_stopped.ensures c.put_state.ensures
+    listing_put s.result c.requires s.ensures.acts s.ensures.named c.put_stopped.ensures (rw c.document.ensures at c.put_state.ensures)

@@ -1,10 +1,8 @@
--- A whole area's rows are inside, and its sentences are as many as word 0 says.
-use native.Mathlib.Omega.{arith}
-use Rattle.listing_lines.proofs.Parts.{rows_fit, state_put}
+-- A whole area's sentences are as many as word 0 says.
+use Rattle.listing_lines.proofs.Parts.{state_put}
 use Rattle.listing_lines.proofs.put_state.Goals as goal
 
-pub put_rows-requires : goal.put_rows-requires
-put_rows-requires c = let f = rows_fit c.requires in omega (arith, f)
-
 pub returns : goal.returns
-returns c = search state_put
+returns c =
+    let t = c.trail.ensures in
+    state_put c.args.checked.lim _ t.atoms t.rows c.sentences_of.ensures (rw t.words at c.put_rows.ensures) c.put_bounds.ensures

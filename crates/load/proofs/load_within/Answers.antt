@@ -16,6 +16,13 @@ returns-in_err-check-clause-loads c =
     let p = err_from_is_err_and c.from_residual.result c.from_residual.ensures.1 in
     rw (p.1, p.2) (record { answer_is = c.in_err-check.ensures; refused = λ _. refl; accepted = λ e. absurd (refusal_some _ e) })
 
+pub invariant_of-sizes : goal.invariant_of-sizes
+invariant_of-sizes c =
+    let a = c.args in
+    let none : answer 0 0 ≡ load_answer a.lim (length a.area.now) a.atoms.0 (held a.columns) = search rules in
+    let few = (accepted a.lim (length a.area.now) a.atoms.0 (held a.columns) (ap {A = Answer} (λ r. r.code) (sym none))).shape in
+    record { room = (omega (arith, c.requires.atoms, few.within.high), omega (arith, c.requires.sentences, few.within.few_sentences)) }
+
 pub store_all-requires : goal.store_all-requires
 store_all-requires c =
     let a = c.args in

@@ -15,8 +15,8 @@ pub overflow_add-to : goal.overflow_add-to
 overflow_add-to c = let k = inside c.args.lim c.args.n (held c.args.columns) c.loop-s.s c.loop-s.from c.requires.1 c.loop-s-test.true c.loop-s.invariant.from_is in
     omega (arith, k.weights)
 
-pub slice_bounds-check_sentence-end : goal.slice_bounds-check_sentence-end
-slice_bounds-check_sentence-end c = let k = inside c.args.lim c.args.n (held c.args.columns) c.loop-s.s c.loop-s.from c.requires.1 c.loop-s-test.true c.loop-s.invariant.from_is in
+pub slice_bounds-sentence-end : goal.slice_bounds-sentence-end
+slice_bounds-sentence-end c = let k = inside c.args.lim c.args.n (held c.args.columns) c.loop-s.s c.loop-s.from c.requires.1 c.loop-s-test.true c.loop-s.invariant.from_is in
     omega (arith, k.weights)
 
 pub returns-in-Err : goal.returns-in-Err

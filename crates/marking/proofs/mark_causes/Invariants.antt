@@ -3,4 +3,4 @@ use Rattle.marking.proofs.Naming.{Naming}
 use Rattle.marking.proofs.mark_causes.Given as goal
 
 abbrev pub invariant-loop-place : goal.invariant-loop-place
-invariant-loop-place l = Naming l.area l.n l.sentences l.s l.limit l.initial.marks l.place l.marks
+invariant-loop-place l = Naming l.area l.fn.sizes.atoms l.fn.sizes.sentences l.s l.limit l.initial.marks l.place l.marks

@@ -6,20 +6,20 @@ use Rattle.negations.proofs.count_causes.Goals as goal
 use Rattle.negations.proofs.count_causes.Goals.{Joined-is_some, then-is_some, else-is_some}
 
 again : (c : Joined-is_some) → (c.if-is_some.found ≤ c.loop-place.place + 1)
-    × Counted c.args.area.now c.args.n c.args.sentences c.args.base c.args.limit (c.loop-place.place + 1) c.if-is_some.found
+    × Counted c.args.sentence.area.now c.args.sentence.sizes.atoms c.args.sentence.sizes.sentences c.args.sentence.base c.args.limit (c.loop-place.place + 1) c.if-is_some.found
 again c =
-    let inside : c.loop-place.place ≤ merged_at c.args.area.now c.args.base = omega arith in
+    let inside : c.loop-place.place ≤ merged_at c.args.sentence.area.now c.args.sentence.base = omega arith in
     elim c.if-is_some.branch [
       | then-is_some w ↦ (
         omega arith,
         rw w.found-is
-            (counted_more c.requires c.loop-place.place inside c.loop-place.found _ c.negation_at.ensures (sym c.is_some.ensures ∙ w.if-is_some.true)
+            (counted_more c.args.sentence.ready c.args.limit c.loop-place.place inside c.loop-place.found _ c.negation_at.ensures (sym c.is_some.ensures ∙ w.if-is_some.true)
             c.loop-place.invariant.1),
       )
       | else-is_some w ↦ (
         omega arith,
         rw w.found-is
-            (counted_same c.requires c.loop-place.place inside c.loop-place.found _ c.negation_at.ensures (sym c.is_some.ensures ∙ w.if-is_some.false)
+            (counted_same c.args.sentence.ready c.args.limit c.loop-place.place inside c.loop-place.found _ c.negation_at.ensures (sym c.is_some.ensures ∙ w.if-is_some.false)
             c.loop-place.invariant.1),
       )
     ]
@@ -29,4 +29,4 @@ loop-place-preserved c = again (goal.at.loop-place-preserved c).Joined-is_some
 
 pub returns-after-is_some : goal.returns-after-is_some
 returns-after-is_some c =
-    counted_ends c.requires (c.loop-place.place + 1) _ (omega arith) (again (goal.at.returns-after-is_some c).Joined-is_some).1
+    counted_ends c.args.sentence.ready c.args.limit (c.loop-place.place + 1) _ (omega arith) (again (goal.at.returns-after-is_some c).Joined-is_some).1

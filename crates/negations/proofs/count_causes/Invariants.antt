@@ -4,4 +4,4 @@ use Rattle.negations.proofs.Loops.{Counted}
 use Rattle.negations.proofs.count_causes.Given as goal
 
 abbrev pub invariant-loop-place : goal.invariant-loop-place
-invariant-loop-place l = (l.found ≤ l.place) × Counted l.area l.n l.sentences l.base l.limit l.place l.found
+invariant-loop-place l = (l.found ≤ l.place) × Counted l.sentence.area.now l.sentence.sizes.atoms l.sentence.sizes.sentences l.sentence.base l.limit l.place l.found

@@ -9,17 +9,17 @@ use Rattle.negations.proofs.write_causes.Goals.{Joined-negation_at, in-Some, in_
 
 pub bounds-list-at : goal.bounds-list-at
 bounds-list-at c =
-    room_here c.requires.0 c.loop-place.place (omega arith) c.loop-place.invariant c.requires.1 c.in-Some.negation c.in-Some.ensures
+    room_here c.args.sentence.ready c.args.limit c.loop-place.place (omega arith) c.loop-place.invariant c.requires.1 c.in-Some.negation c.in-Some.ensures
 
-again : (c : Joined-negation_at) → Writing c.args.area.now c.args.n c.args.sentences c.args.base c.args.limit c.args.start c.args.list.now
+again : (c : Joined-negation_at) → Writing c.args.sentence.area.now c.args.sentence.sizes.atoms c.args.sentence.sizes.sentences c.args.sentence.base c.args.limit c.args.start c.args.list.now
     (c.loop-place.place + 1) c.match-negation_at.at c.match-negation_at.list
 again c =
-    let inside : c.loop-place.place ≤ merged_at c.args.area.now c.args.base = omega arith in
+    let inside : c.loop-place.place ≤ merged_at c.args.sentence.area.now c.args.sentence.base = omega arith in
     elim c.match-negation_at.branch [
       | in-Some w ↦ rw (w.at-is, w.list-is, to_z-of_z w64 w.in-Some.negation (search rules))
-          (writing_more c.requires.0 c.loop-place.place inside c.loop-place.invariant c.requires.1 w.in-Some.negation w.in-Some.ensures)
+          (writing_more c.args.sentence.ready c.args.limit c.loop-place.place inside c.loop-place.invariant c.requires.1 w.in-Some.negation w.in-Some.ensures)
       | in_default w ↦ rw (w.at-is, w.list-is)
-          (writing_same c.requires.0 c.loop-place.place inside c.loop-place.invariant w.in_default.ensures)
+          (writing_same c.args.sentence.ready c.args.limit c.loop-place.place inside c.loop-place.invariant w.in_default.ensures)
     ]
 
 pub loop-place-preserved : goal.loop-place-preserved
@@ -27,4 +27,4 @@ loop-place-preserved c = again (goal.at.loop-place-preserved c).Joined-negation_
 
 pub returns-after-negation_at : goal.returns-after-negation_at
 returns-after-negation_at c =
-    writing_ends c.requires.0 (omega arith) (again (goal.at.returns-after-negation_at c).Joined-negation_at)
+    writing_ends c.args.sentence.ready c.args.limit (omega arith) (again (goal.at.returns-after-negation_at c).Joined-negation_at)

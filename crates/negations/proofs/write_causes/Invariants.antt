@@ -3,4 +3,4 @@ use Rattle.negations.proofs.Loops.{Writing}
 use Rattle.negations.proofs.write_causes.Given as goal
 
 abbrev pub invariant-loop-place : goal.invariant-loop-place
-invariant-loop-place l = Writing l.area l.n l.sentences l.base l.limit l.start l.initial.list l.place l.at l.list
+invariant-loop-place l = Writing l.sentence.area.now l.sentence.sizes.atoms l.sentence.sizes.sentences l.sentence.base l.limit l.start l.initial.list l.place l.at l.list

@@ -3,7 +3,8 @@ use Rattle.std.specs.Prelude.{◌≡◌, List, ◌∷◌, ◌++◌, map, ℕ, �
 use Rattle.meaning.specs.Merge.{scope}
 use Rattle.book.specs.Rows.{pick, causes}
 use Rattle.area.specs.Layout.{rule_at}
-use Rattle.causes.specs.Inner.Causes.{before}
+use Rattle.extremes.specs.declared.evaluable.Evaluable.{Evaluable}
+use Rattle.causes.specs.Inner.Causes.{before, atom_of}
 
 -- of the sentence at b, of n atoms and S sentences, over the first `limit` rows
 abbrev pub negations : List ℕ → ℕ → ℕ → ℕ → ℕ → List ℤ
@@ -14,6 +15,13 @@ abbrev pub NegationAt : List ℕ → ℕ → ℕ → ℕ → Option ℤ → Type
 NegationAt w n a limit r =
     MatchOption r ((rest : List ℤ) → pick (before w n limit) a rest ≡ rest)
     (λ z. (rest : List ℤ) → map neg_ℤ (pick (before w n limit) a rest) ≡ z ∷ map neg_ℤ rest)
+
+-- of a stored sentence, by the value that has it
+abbrev pub negations_of : Evaluable → ℕ → List ℤ
+negations_of s limit = negations s.area.now s.sizes.atoms s.sizes.sentences s.base limit
+
+abbrev pub NegationOf : Evaluable → (place limit : ℕ) → Option ℤ → Type 0
+NegationOf s place limit r = NegationAt s.area.now s.sizes.atoms (atom_of s place) limit r
 
 -- a list with these numbers in place of its own from `start` on
 abbrev pub overwritten : List ℤ → ℕ → List ℤ → List ℤ

@@ -1,11 +1,27 @@
--- A constraint's rows as they are stored.
-use Rattle.std.specs.Prelude.{Bool, cond, List, [], ◌∷◌, ℕ, ◌+◌, ◌-◌, ◌≤◌, length, ℤ}
+-- A term and a constraint's rows as they are stored.
+use Rattle.std.specs.Prelude.{Bool, cond, List, [], ◌∷◌, ℕ, ◌+◌, ◌-◌, ◌<◌, ◌≤◌, length, set, ℤ, pos}
 use Rattle.std.proofs.lemmas.List.Edits.{sets}
 use Rattle.std.proofs.Math.Seq.{slice}
 use Rattle.columns.specs.Columns.{Columns, seven_columns}
 use Rattle.opb_grammar.specs.declared.State.{State}
 use Rattle.opb_grammar.specs.Grammar.{size_limit}
 use Rattle.opb_rows.specs.Signed.{signed_of}
+
+-- ---- a term
+
+abbrev pub with_term : State → Columns → Columns
+with_term s c =
+    seven_columns c.heads c.kinds c.sides c.bounds c.counts (set c.weights s.counts.entries (signed_of s.weight))
+    (set c.literals s.counts.entries (pos s.number.size))
+
+-- there is room for it
+pub record TermRoom (s : State) (c : Columns) : Type 0 where
+  pub weights : s.counts.entries < length c.weights
+  pub literals : s.counts.entries < length c.literals
+  pub weight_size : s.weight.size ≤ size_limit
+  pub size : s.number.size ≤ size_limit
+
+-- ---- rows
 
 -- one number, or for `=` two
 module _ {A : Type 0} where

@@ -9,7 +9,7 @@ use Rattle.area.specs.Layout.{atoms_of, length_of, row_at, rows_of, theory_of}
 use Rattle.area.specs.Whole.{Whole}
 use Rattle.calls.specs.declared.Refusal.{Refusal}
 use Rattle.calls.specs.declared.Refusal.TheVariants.{TooShort}
-use Rattle.chosen.specs.Inner.Chosen.{Choosable, chosen_literals, in_front}
+use Rattle.chosen.specs.Inner.Chosen.{chosen_literals, in_front}
 
 -- position p is on the trail of a whole area, by whatever limits and counters
 pub record OriginsAsked (w : List ℕ) (p : ℕ) : Type 0 where
@@ -30,7 +30,7 @@ origins_at w p = origins (scopes (judged_all (theory_of w))) (rows_of w) (row_at
 
 -- the chosen literals by the marks m are those origins, r in number
 pub record Choice (w : List ℕ) (p : ℕ) (m : List Bool) (r : ℕ) : Type 0 where
-  pub choosable : Choosable w (atoms_of w) (length_of w) m
+  pub room : length_of w ≤ length m
   pub literals : chosen_literals w (atoms_of w) m (length_of w) ≡ origins_at w p
   pub counted : r ≡ length (origins_at w p)
 

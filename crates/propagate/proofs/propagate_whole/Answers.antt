@@ -13,7 +13,7 @@ stopped : (c : After-run-end) (lim : Limits) → Usable lim c.args.area.now (cou
     → Stopped lim c.args.area.now c.run-end.new.area c.args.counters.level.0 c.run-end.result.length (number_of c.run-end.result.sentence)
 stopped c lim u =
     c.run-end.ensures.stopped lim
-    (record { fitting = u.fitting; whole = u.whole; atoms = sym c.atoms_of-n.ensures; sentences = sym c.sentences_of-sentences.ensures })
+    (record { fitting = u.fitting; whole = u.whole; atoms = sym c.sizes_of-sizes.ensures.atoms; sentences = sym c.sizes_of-sizes.ensures.sentences })
 
 pub overflow_sub-put : goal.overflow_sub-put
 overflow_sub-put c =

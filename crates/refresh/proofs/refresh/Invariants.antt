@@ -3,4 +3,4 @@ use Rattle.refresh.specs.Inner.Refresh.{RefreshedTo}
 use Rattle.refresh.proofs.refresh.Given as goal
 
 abbrev pub invariant-loop-s : goal.invariant-loop-s
-invariant-loop-s l = RefreshedTo l.fn.area l.area l.n l.sentences l.touched l.s
+invariant-loop-s l = RefreshedTo l.fn.area l.area l.sizes.atoms l.sizes.sentences l.touched l.s

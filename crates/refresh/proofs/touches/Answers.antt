@@ -6,15 +6,15 @@ use Rattle.refresh.proofs.touches.Goals as goal
 
 pub bounds-touched-atom : goal.bounds-touched-atom
 bounds-touched-atom c =
-    omega (arith, c.requires.1.table, atom_in c.requires c.entry_at-start.ensures c.merged_at-merged.ensures c.loop-i-test.true c.literal_in.ensures)
+    omega (arith, c.requires, atom_in c.args.sentence.ready c.entry_at-start.ensures c.merged_at-merged.ensures c.loop-i-test.true c.literal_in.ensures)
 
 pub returns-then-touched-atom-ne0 : goal.returns-then-touched-atom-ne0
 returns-then-touched-atom-ne0 c =
     told_no
-    (λ u. c.if-touched-atom-ne0.true (entry_untouched c.requires c.entry_at-start.ensures c.merged_at-merged.ensures u c.loop-i-test.true c.literal_in.ensures))
+    (λ u. c.if-touched-atom-ne0.true (entry_untouched c.args.sentence.ready c.entry_at-start.ensures c.merged_at-merged.ensures c.args.touched.now u c.loop-i-test.true c.literal_in.ensures))
 
 pub returns : goal.returns
 returns c =
     let head : word c.args.touched.now c.head_at-head.result ≡ 0 = omega arith in
     told_yes
-    (all_untouched c.requires c.entry_at-start.ensures c.merged_at-merged.ensures c.head_at-head.ensures head (λ j l. c.loop-i.invariant j (omega arith)))
+    (all_untouched c.args.sentence.ready c.entry_at-start.ensures c.merged_at-merged.ensures c.args.touched.now c.head_at-head.ensures head (λ j l. c.loop-i.invariant j (omega arith)))

@@ -12,6 +12,6 @@ loop-i-init c = none_written _ _ _
 pub loop-i-preserved : goal.loop-i-preserved
 loop-i-preserved c =
     c.write_row.ensures
-    ∙ row_written _ c.args.n c.loop-i.i _ _ (omega arith) c.loop-i.invariant
+    ∙ row_written _ c.args.trail.n c.loop-i.i _ _ (omega arith) c.loop-i.invariant
     (to_z-of_z w64 c.literal_of-literal.result (search rules) ∙ c.literal_of-literal.ensures ∙ ap {A = ℕ} literal_of c.literal_at.ensures)
     c.row_level-level.ensures c.row_reason-reason.ensures

@@ -14,5 +14,5 @@ wider n ls h e = none_of (length ls) (λ i. outside 4096 (atom (nth ls i))) (λ 
     an_atom 4096 (atom (nth ls i)) (λ q. omega (arith, k.0)) (omega (arith, k.1)))
 
 pub mixed-requires : goal.mixed-requires
-mixed-requires c = wider c.args.n c.args.literals.now c.requires
-    (right_false (outside c.args.n c.args.head) (no_literal c.args.n c.args.literals.now) (sym c.strange.ensures ∙ c.if-strange.false))
+mixed-requires c = wider c.args.n c.args.sentence.literals.now c.requires
+    (right_false (outside c.args.n c.args.sentence.head) (no_literal c.args.n c.args.sentence.literals.now) (sym c.strange.ensures ∙ c.if-strange.false))

@@ -8,6 +8,12 @@ use Rattle.store.proofs.store_all.Goals as goal
 pub clear-requires : goal.clear-requires
 clear-requires c = let k = c.requires.accepted in (omega arith, omega (arith, k.enough))
 
+pub invariant_of-sizes : goal.invariant_of-sizes
+invariant_of-sizes c =
+    let q = c.requires in
+    let few = q.accepted.shape.within in
+    record { room = (omega (arith, q.fitting.atoms, few.high), omega (arith, q.fitting.sentences, few.few_sentences)) }
+
 pub loop-s-init : goal.loop-s-init
 loop-s-init c = record { low = omega arith; running = running_none _ _ _ }
 
@@ -17,8 +23,8 @@ overflow_add-to c =
     let i = here q.lim (length c.args.area.now) c.args.n (held c.args.columns) q.fitting q.accepted c.loop-s.s c.loop-s.from c.loop-s-test.true c.loop-s.invariant.running.from_is in
     omega (arith, i.weights)
 
-pub slice_bounds-store_one-end : goal.slice_bounds-store_one-end
-slice_bounds-store_one-end c =
+pub slice_bounds-sentence-end : goal.slice_bounds-sentence-end
+slice_bounds-sentence-end c =
     let q = c.requires in
     let i = here q.lim (length c.args.area.now) c.args.n (held c.args.columns) q.fitting q.accepted c.loop-s.s c.loop-s.from c.loop-s-test.true c.loop-s.invariant.running.from_is in
     omega (arith, i.weights)

@@ -6,7 +6,7 @@ use Rattle.theory_check.proofs.places_ok.Given as goal
 
 abbrev pub invariant-loop-s : goal.invariant-loop-s
 invariant-loop-s l = record {
-  sum : l.before ≡ entries_before l.area l.n l.s;
+  sum : l.before ≡ entries_before l.area l.sizes.atoms l.s;
   small : l.before ≤ 4096 * l.s;
-  placed : (k : ℕ) → k < l.s → PlaceOk l.lim l.area l.n k;
+  placed : (k : ℕ) → k < l.s → PlaceOk l.lim l.area l.sizes.atoms k;
 }

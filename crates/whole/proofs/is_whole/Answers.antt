@@ -13,31 +13,31 @@ returns-then-not-header_ok c = told_no (λ h. c.if-not-header_ok.ensures.no refl
 
 pub reasons_ok-requires : goal.reasons_ok-requires
 reasons_ok-requires c =
-    let t : TrailOk c.args.area.now c.atoms_of-n.result c.args.counters.length c.args.counters.level.0 = grind arith in
-    let p : PlacesOk c.args.lim c.args.area.now c.atoms_of-n.result c.sentences_of-sentences.result = grind arith in
+    let t : TrailOk c.args.area.now c.sizes_of-sizes.result.atoms c.args.counters.length c.args.counters.level.0 = grind arith in
+    let p : PlacesOk c.args.lim c.args.area.now c.sizes_of-sizes.result.atoms c.sizes_of-sizes.result.sentences = grind arith in
     let h = c.if-not-header_ok.ensures.yes refl in
     let l = literals t in search arith
 
 pub returns-then-sentences_ok : goal.returns-then-sentences_ok
 returns-then-sentences_ok c =
-    let t : TrailOk c.args.area.now c.atoms_of-n.result c.args.counters.length c.args.counters.level.0 = grind arith in
-    let p : PlacesOk c.args.lim c.args.area.now c.atoms_of-n.result c.sentences_of-sentences.result = grind arith in
+    let t : TrailOk c.args.area.now c.sizes_of-sizes.result.atoms c.args.counters.length c.args.counters.level.0 = grind arith in
+    let p : PlacesOk c.args.lim c.args.area.now c.sizes_of-sizes.result.atoms c.sizes_of-sizes.result.sentences = grind arith in
     elim c.if-places_ok.branch [
       | then-places_ok w ↦ told_same c.reasons_ok.ensures
-          (λ r. joined_at _ _ _ _ _ _ (sym c.atoms_of-n.ensures) (sym c.sentences_of-sentences.ensures) (c.if-not-header_ok.ensures.yes refl) (record {
+          (λ r. joined_at _ _ _ _ _ _ (sym c.sizes_of-sizes.ensures.atoms) (sym c.sizes_of-sizes.ensures.sentences) (c.if-not-header_ok.ensures.yes refl) (record {
             trail_ok = t;
             places = p;
             sentences = (w.sentences_ok.ensures _ (shows t)).yes (sym w.value-is ∙ c.if-sentences_ok.true);
             reasons = r;
           }))
-          (λ h. (parts_at _ _ _ _ _ _ (sym c.atoms_of-n.ensures) (sym c.sentences_of-sentences.ensures) h).reasons)
+          (λ h. (parts_at _ _ _ _ _ _ (sym c.sizes_of-sizes.ensures.atoms) (sym c.sizes_of-sizes.ensures.sentences) h).reasons)
       | else-places_ok w ↦ absurd (cc)
     ]
 
 pub returns-else-sentences_ok : goal.returns-else-sentences_ok
 returns-else-sentences_ok c = record {
   yes = λ e. absurd (cc);
-  no = λ e h. let p = parts_at _ _ _ _ _ _ (sym c.atoms_of-n.ensures) (sym c.sentences_of-sentences.ensures) h in
+  no = λ e h. let p = parts_at _ _ _ _ _ _ (sym c.sizes_of-sizes.ensures.atoms) (sym c.sizes_of-sizes.ensures.sentences) h in
       elim c.if-places_ok.branch [
         | then-places_ok w ↦ (w.sentences_ok.ensures _ (shows p.trail_ok)).no (sym w.value-is ∙ c.if-sentences_ok.false) p.sentences
         | else-places_ok w ↦ grind arith

@@ -3,4 +3,4 @@ use Rattle.whole.proofs.CheckSentences.{Passed}
 use Rattle.whole.proofs.sentences_ok.Given as goal
 
 abbrev pub invariant-loop-s : goal.invariant-loop-s
-invariant-loop-s l = Passed l.lim l.area l.n l.sentences l.s l.seen
+invariant-loop-s l = Passed l.lim l.area l.sizes.atoms l.sizes.sentences l.s l.seen

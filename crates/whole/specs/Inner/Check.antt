@@ -5,8 +5,9 @@ use Rattle.types.specs.Limits.{Fitting}
 use Rattle.decide.specs.Inner.Tells.{Tells}
 use Rattle.area.specs.Layout.{record_at}
 use Rattle.extremes.specs.Inner.Stored.{Shows}
+use Rattle.extremes.specs.declared.evaluable.Evaluable.{Evaluable}
 use Rattle.theory_check.specs.Theory.{PlacesOk}
-use Rattle.whole.specs.Parts.{SentenceRight}
+use Rattle.whole.specs.Parts.{Matching, SentenceRight}
 
 -- word 0 and the places are right
 pub record SentencesAsked (lim : Limits) (w : List ℕ) (n S : ℕ) : Type 0 where
@@ -19,6 +20,10 @@ pub record SentencesAsked (lim : Limits) (w : List ℕ) (n S : ℕ) : Type 0 whe
 -- r tells of P over every trail that the values show
 abbrev pub TellsOver : List ℕ → ℕ → Bool → (List ℤ → Type 0) → Type 0
 TellsOver w n r P = (t : List ℤ) → Shows w n t → Tells r (P t)
+
+-- r tells whether the sentence matches
+abbrev pub MatchingTold : Evaluable → Bool → Type 0
+MatchingTold s r = TellsOver s.area.now s.sizes.atoms r (Matching s.area.now s.sizes.atoms s.sizes.sentences s.base)
 
 -- the first k sentences are right over the trail t
 abbrev pub RightBelow : Limits → List ℕ → ℕ → ℕ → ℕ → List ℤ → Type 0

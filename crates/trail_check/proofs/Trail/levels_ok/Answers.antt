@@ -1,7 +1,7 @@
 use Rattle.std.proofs.Common.{arith}
 use Rattle.decide.proofs.Tells.{told_yes, told_no}
 use Rattle.trail_check.proofs.Levels.{rising_down, rising_up, rising_none}
-use Rattle.trail_check.proofs.levels_ok.Goals as goal
+use Rattle.trail_check.proofs.Trail.levels_ok.Goals as goal
 
 pub returns-then-own-high : goal.returns-then-own-high
 returns-then-own-high c = told_no (λ h.
