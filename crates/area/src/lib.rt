@@ -154,11 +154,19 @@ pub fn pending_at(area: &[u64], base: usize) -> bool
     area[base + 1] >= 16
 }
 
+// the kind's number
+pub fn kind_number_at(area: &[u64], base: usize) -> u64
+    requires { base + 8 ≤ length area.now }
+    ensures { result ≡ kind_at area.now base }
+{
+    area[base + 1] % 8
+}
+
 pub fn kind_at(area: &[u64], base: usize) -> Kind
     requires { base + 8 ≤ length area.now }
     ensures { meant result ≡ kind_of (kind_at area.now base) }
 {
-    Kind::numbered(area[base + 1] % 8)
+    Kind::numbered(kind_number_at(area, base))
 }
 
 // whether it says value ≤ bound

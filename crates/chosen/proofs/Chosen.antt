@@ -16,7 +16,7 @@ use Rattle.std.specs.Option.{is_some}
 use Rattle.area.specs.Layout.{row_at}
 use Rattle.chosen.specs.Inner.Chosen.{origin_marked, ChosenAt, chosen_literals, in_front}
 
-module _ (w : List ℕ) (n : ℕ) (m : List Bool) where
+module _ (w : List ℕ) (n : ℕ) (m : List ℕ) where
   abbrev lit : ℕ → ℤ
   lit k = (row_at w n k).literal
 

@@ -7,11 +7,14 @@ ghost use Rattle.chosen.specs.Inner.Chosen.{ChosenAt, chosen_of, in_front};
 use trail_check::Trail;
 
 // The literal at position i, if the position is marked and the literal was given.
-fn chosen_at(trail: Trail<'_>, i: usize, marks: &[bool]) -> Option<i64>
+fn chosen_at(trail: Trail<'_>, i: usize, marks: &[u8]) -> Option<i64>
     requires { (i < trail.len) × (trail.len ≤ length marks.now) }
     ensures { ChosenAt trail.entry.area.now trail.entry.n marks.now i result }
 {
-    if marks[i] && area::row_reason(trail.area, trail.n, i) == 0 {
+    if marks[i] == 0 {
+        return None;
+    }
+    if area::row_reason(trail.area, trail.n, i) == 0 {
         Some(literals::literal_of(area::literal_at(trail.area, trail.n, i)))
     } else {
         None
@@ -19,7 +22,7 @@ fn chosen_at(trail: Trail<'_>, i: usize, marks: &[bool]) -> Option<i64>
 }
 
 // How many of the rows have one.
-pub fn count_chosen(trail: Trail<'_>, marks: &[bool]) -> usize
+pub fn count_chosen(trail: Trail<'_>, marks: &[u8]) -> usize
     requires { trail.len ≤ length marks.now }
     ensures { result ≡ length (chosen_of trail.entry marks.now) }
 {
@@ -34,7 +37,7 @@ pub fn count_chosen(trail: Trail<'_>, marks: &[bool]) -> usize
 }
 
 // Those literals, at the front of the list; the rest of it keeps its contents.
-pub fn write_chosen(trail: Trail<'_>, marks: &[bool], list: &mut [i64])
+pub fn write_chosen(trail: Trail<'_>, marks: &[u8], list: &mut [i64])
     requires { (trail.len ≤ length marks.now) × (length (chosen_of trail marks.now) ≤ length list.old) }
     ensures { list.new ≡ in_front (chosen_of trail.entry marks.now) list.old }
 {

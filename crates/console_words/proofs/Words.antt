@@ -3,6 +3,7 @@ use Rattle.std.proofs.Common.{◌≡◌, refl, sym, ◌∙◌, ℕ, suc, ◌-◌
 use Rattle.std.proofs.Common.{[], ◌∷◌, ◌++◌, append_assoc, length, take, drop, get_or, one-add, drop-cons, length-take, length-drop, length-append, append-nil}
 use Rattle.std.proofs.Math.Seq.{take_all}
 use Rattle.std.proofs.Math.ListN.{drop_of_length-le}
+use Rattle.std.proofs.lemmas.List.{take-append-drop}
 use Rattle.std.proofs.lemmas.List.Sums.{prefix_len-le-length, passes_at_first}
 use Rattle.std.proofs.lemmas.Option.{cond_some, none-some}
 use Rattle.std.proofs.lemmas.Bool.{ltb-true, ltb-false}
@@ -101,6 +102,8 @@ module _ (line : List ℕ) {i : ℕ} (e : Some i ≡ position filled line) where
   -- the word that begins there, and what stands behind it
   split_there : SplitsWord line (take (position_or_len blank (drop i line)) (drop i line)) (drop (position_or_len blank (drop i line)) (drop i line))
   split_there = record {
+    before = take i line;
+    line_is = simp (append_assoc, take-append-drop);
     words_are = blanks_passed line ∙ rw inside.1 (word_at _ _ begins no_blank);
     some = word_some _ _ begins no_blank;
     fits = simp (length-take, length-drop) (omega arith);

@@ -1,7 +1,6 @@
 -- The causes that a sentence names, marked place by place: what is marked is named, and what is named is marked or still to come. A literal
 -- has one position, so that the mark of a cause is that of its position.
 use mathlib.Core.Path.{◌≡◌, refl, sym, ◌∙◌, ap, subst}
-use mathlib.Core.Bool.{Bool, true, false}
 use mathlib.Core.Logic.{◌⊎◌, inl, inr, ⊎_elim}
 use mathlib.Core.List.{List, ◌∷◌}
 use Prim.Native.Nat.{ℕ, ◌+◌, ◌<◌, ◌≤◌}
@@ -23,27 +22,27 @@ use Rattle.marking.specs.Inner.Marks.{Marked, Markable, CauseNamed, Adds}
 
 -- ---- one mark more
 
-module _ (m : List Bool) (r : ℕ) (room : r < length m) where
-  pub mark_set : Marked (set m r true) r
-  mark_set = get_or-set_same m r true false room
+module _ (m : List ℕ) (r : ℕ) (room : r < length m) where
+  pub mark_set : Marked (set m r 1) r
+  mark_set = omega (arith, get_or-set_same m r 1 0 room)
 
-  mark_kept : (i : ℕ) → Marked m i → Marked (set m r true) i
+  mark_kept : (i : ℕ) → Marked m i → Marked (set m r 1) i
   mark_kept i h = go (ℕ_discrete i r)
     where
-      go : Dec (i ≡ r) → Marked (set m r true) i
-      go (yes e) = subst (Marked (set m r true)) (sym e) mark_set
-      go (no d) = get_or-set_other m r i true false d ∙ h
+      go : Dec (i ≡ r) → Marked (set m r 1) i
+      go (yes e) = subst (Marked (set m r 1)) (sym e) mark_set
+      go (no d) = omega (arith, get_or-set_other m r i 1 0 d)
 
-  pub mark_only : (i : ℕ) → Marked (set m r true) i → Marked m i ⊎ (i ≡ r)
+  pub mark_only : (i : ℕ) → Marked (set m r 1) i → Marked m i ⊎ (i ≡ r)
   mark_only i h = go (ℕ_discrete i r)
     where
       go : Dec (i ≡ r) → Marked m i ⊎ (i ≡ r)
       go (yes e) = inr e
-      go (no d) = inl (sym (get_or-set_other m r i true false d) ∙ h)
+      go (no d) = inl (omega (arith, get_or-set_other m r i 1 0 d))
 
 -- ---- place by place
 
-module _ (w : List ℕ) (n S s limit : ℕ) (m₀ : List Bool) where
+module _ (w : List ℕ) (n S s limit : ℕ) (m₀ : List ℕ) where
   abbrev lit : ℕ → ℤ
   lit i = (row_at w n i).literal
 
@@ -55,7 +54,7 @@ module _ (w : List ℕ) (n S s limit : ℕ) (m₀ : List Bool) where
   from place = causes (trail (rows_from w n limit)) (drop place sc)
 
   -- the marks m once the places before `place` are handled, from the marks m₀
-  pub record Naming (place : ℕ) (m : List Bool) : Type 0 where
+  pub record Naming (place : ℕ) (m : List ℕ) : Type 0 where
     pub size : length m ≡ length m₀
     pub kept : (i : ℕ) → Marked m₀ i → Marked m i
     pub only : (i : ℕ) → Marked m i → Marked m₀ i ⊎ CauseNamed w n S s limit i
@@ -65,7 +64,7 @@ module _ (w : List ℕ) (n S s limit : ℕ) (m₀ : List Bool) where
   pub none_named : Naming 0 m₀
   none_named = record { size = refl; kept = λ i h. h; only = λ i h. inl h; left = λ i h. inr h.among; rest = λ l h. h }
 
-  module _ (ready : Markable w n S limit m₀) (number : s < S) (place : ℕ) (m : List Bool) (x : Naming place m) where
+  module _ (ready : Markable w n S limit m₀) (number : s < S) (place : ℕ) (m : List ℕ) (x : Naming place m) where
     places : length sc ≡ merged_at w (record_at n s) + 1
     places = scope_length w n S (record_at n s) (ready.sentence s number)
 
@@ -93,11 +92,11 @@ module _ (w : List ℕ) (n S s limit : ℕ) (m₀ : List Bool) where
         pub cause_room : r < length m
         cause_room = omega (arith, x.size, ready.position, ready.room, c.inside)
 
-        pub cause_named : Naming (place + 1) (set m r true)
+        pub cause_named : Naming (place + 1) (set m r 1)
         cause_named =
             let e : from place ≡ lit r ∷ from (place + 1) = next_from ∙ c.picked (from (place + 1)) in
             record {
-              size = length-set m r true ∙ x.size;
+              size = length-set m r 1 ∙ x.size;
               kept = λ i y. mark_kept m r cause_room i (x.kept i y);
               only = λ i y. ⊎_elim
                   (λ z. x.only i z)
@@ -117,6 +116,6 @@ module _ (w : List ℕ) (n S s limit : ℕ) (m₀ : List Bool) where
                 (omega (arith, ready.position, c.inside)) (ap {A = ℤ} atom q)
 
             here_or_later : (i : ℕ) → CauseNamed w n S s limit i → (lit i ≡ lit r) ⊎ Among (lit i) (from (place + 1))
-                → Marked (set m r true) i ⊎ Among (lit i) (from (place + 1))
-            here_or_later i p (inl q) = inl (subst (Marked (set m r true)) (sym (one_position i p q)) (mark_set m r cause_room))
+                → Marked (set m r 1) i ⊎ Among (lit i) (from (place + 1))
+            here_or_later i p (inl q) = inl (subst (Marked (set m r 1)) (sym (one_position i p q)) (mark_set m r cause_room))
             here_or_later i p (inr a) = inr a

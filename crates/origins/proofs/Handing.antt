@@ -1,6 +1,5 @@
 -- A table with one mark, at a position of the trail: what marking makes of it chooses the origins of the literal there.
-use mathlib.Core.Path.{◌≡◌, refl, sym, ◌∙◌, ap}
-use mathlib.Core.Bool.{Bool, true, false, true≢false}
+use mathlib.Core.Path.{◌≡◌, refl, ◌∙◌, ap}
 use mathlib.Core.Logic.{⊎_elim}
 use mathlib.Core.List.{List}
 use Prim.Native.Nat.{ℕ, zero, suc, ◌<◌, ◌≤◌}
@@ -19,7 +18,7 @@ use Rattle.origins.proofs.Reaching.{chosen_origins}
 
 -- ---- a table without marks
 
-unmarked : (k i : ℕ) → get_or {A = Bool} (replicate k false) i false ≡ false
+unmarked : (k i : ℕ) → get_or {A = ℕ} (replicate k 0) i 0 ≡ 0
 unmarked zero i = refl
 unmarked (suc k) zero = refl
 unmarked (suc k) (suc i) = unmarked k i
@@ -45,14 +44,14 @@ module _ (w : List ℕ) (p : ℕ) (asked : OriginsAsked w p) where
   small : n ≤ 4096
   small = omega (arith, asked.whole.theory.atoms_high, asked.fitting.atoms)
 
-  pub unmarked_blank : Blank w (replicate 4097 false)
-  unmarked_blank = record { none = unmarked 4097; room = omega (arith, few, small, length-replicate {A = Bool} 4097 false) }
+  pub unmarked_blank : Blank w (replicate 4097 0)
+  unmarked_blank = record { none = unmarked 4097; room = omega (arith, few, small, length-replicate {A = ℕ} 4097 0) }
 
-  module _ (m₀ : List Bool) (blank : Blank w m₀) where
+  module _ (m₀ : List ℕ) (blank : Blank w m₀) where
     pub inside : p < length m₀
     inside = omega (arith, asked.position, blank.room)
 
-    module _ (m : List Bool) (same_size : length m ≡ length m₀) where
+    module _ (m : List ℕ) (same_size : length m ≡ length m₀) where
       pub markable : Markable w n S p m
       markable = record {
         rows = len;
@@ -66,14 +65,14 @@ module _ (w : List ℕ) (p : ℕ) (asked : OriginsAsked w p) where
       pub room_left : len ≤ length m
       room_left = omega (arith, blank.room)
 
-    abbrev table : List Bool
-    table = set m₀ p true
+    abbrev table : List ℕ
+    table = set m₀ p 1
 
     sole : (i : ℕ) → Marked table i → i ≡ p
-    sole i h = ⊎_elim (λ x. absurd (true≢false (sym x ∙ blank.none i))) (λ e. e) (mark_only m₀ p inside i h)
+    sole i h = ⊎_elim (λ x. let b : ⊥ = omega (arith, x, blank.none i) in absurd b) (λ e. e) (mark_only m₀ p inside i h)
 
-    pub choice : (m : List Bool) → Adds (Reached w n S p table) table m → (r : ℕ) → r ≡ length (chosen_literals w n m len) → Choice w p m r
+    pub choice : (m : List ℕ) → Adds (Reached w n S p table) table m → (r : ℕ) → r ≡ length (chosen_literals w n m len) → Choice w p m r
     choice m a r e =
         let are : chosen_literals w n m len ≡ origins_at w p =
         chosen_origins asked.lim w asked.counters asked.whole p asked.position table (mark_set m₀ p inside) sole m a len (omega arith) in
-        record { room = room_left m (a.size ∙ length-set m₀ p true); literals = are; counted = e ∙ ap length are }
+        record { room = room_left m (a.size ∙ length-set m₀ p 1); literals = are; counted = e ∙ ap length are }

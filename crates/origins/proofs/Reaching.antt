@@ -1,7 +1,7 @@
 -- The book's origins are the given literals that are reached: a literal has one position on the trail of a whole area, so that the test
 -- of the book at a literal is the test at its own row, and its causes stand at positions before it.
 use mathlib.Core.Path.{◌≡◌, refl, sym, ◌∙◌, ap, ap₂, subst}
-use mathlib.Core.Bool.{Bool, true, false, cond, ◌&&◌}
+use mathlib.Core.Bool.{Bool, true, false, not, cond, ◌&&◌}
 use mathlib.Core.Logic.{◌⊎◌, inl, inr, ⊎_elim}
 use mathlib.Core.List.{List, [], ◌∷◌, ◌++◌}
 use Prim.Native.Nat.{ℕ, zero, suc, ◌-◌, ◌<◌, ◌≤◌}
@@ -9,13 +9,13 @@ use native.Mathlib.Omega.{arith}
 use native.Mathlib.Nat.{eq-or-lt_of_le}
 use lib.ListN.{get_or}
 use lib.IntN.{ℤ}
-use lib.Dec.{T, eqb, eqb→eq}
+use lib.Dec.{T, eqb, eqb→eq, T_not}
 use borrow.Author.Tests.{eq-eqb, ne_eqb, eqb-false}
 use Rattle.types.specs.declared.Limits.{Limits}
 use Rattle.numbers.proofs.Words.{same_test}
 use Rattle.meaning.specs.Meaning.{atom, same}
 use Rattle.meaning.specs.Merge.{scope}
-use Rattle.meaning.proofs.Orders.{is_true, is_false}
+use Rattle.meaning.proofs.Orders.{is_true, is_false, T_true}
 use Rattle.meaning.proofs.Verdicts.{and_first, and_second}
 use Rattle.meaning.proofs.Members.{same→eq, eq→same}
 use Rattle.book.specs.Rows.{trail, causes, numbered, any, comes_from, in_order}
@@ -34,8 +34,13 @@ use Rattle.chosen.specs.Inner.Chosen.{origin_marked, chosen_literals}
 
 -- ---- of any lists
 
-chosen_tells : (w : List ℕ) (n : ℕ) (m : List Bool) (i : ℕ) → Marked m i → (row_at w n i).reason ≡ 0 → T (origin_marked w n m i)
-chosen_tells w n m i x e = subst T (sym (ap₂ {A = Bool} {B = Bool} (λ b d. b && d) x (eq-eqb (row_at w n i).reason 0 e))) tt
+marked_told : (m : List ℕ) (i : ℕ) → T (not (eqb (get_or m i 0) 0)) → Marked m i
+marked_told m i t =
+    let d : ¬ (get_or m i 0 ≡ 0) = λ z. T_not (eqb (get_or m i 0) 0) t (T_true (eq-eqb (get_or m i 0) 0 z)) in omega (arith, d)
+
+chosen_tells : (w : List ℕ) (n : ℕ) (m : List ℕ) (i : ℕ) → Marked m i → (row_at w n i).reason ≡ 0 → T (origin_marked w n m i)
+chosen_tells w n m i x e =
+    subst T (sym (ap₂ {A = Bool} {B = Bool} (λ b d. not b && d) (ne_eqb (get_or m i 0) 0 (λ z. omega arith)) (eq-eqb (row_at w n i).reason 0 e))) tt
 
 module _ (lim : Limits) (w : List ℕ) (c : Counters) (h : Whole lim w c) where
   abbrev n : ℕ
@@ -143,14 +148,14 @@ module _ (lim : Limits) (w : List ℕ) (c : Counters) (h : Whole lim w c) where
       (subst T (at_own_row j len o (omega arith) (omega arith) ∙ sym (at_own_row j k o f (omega arith))) t))
 
   -- a given literal that is reached, and its position
-  record Found (p : ℕ) (m : List Bool) (o : ℤ) : Type 0 where
+  record Found (p : ℕ) (m : List ℕ) (o : ℤ) : Type 0 where
     pub position : ℕ
     pub within : position < len
     pub literal_is : lit position ≡ o
     pub given : (row_at w n position).reason ≡ 0
     pub reached : Reached w n S p m position
 
-  module _ (p : ℕ) (top : p < len) (m : List Bool) where
+  module _ (p : ℕ) (top : p < len) (m : List ℕ) where
     -- what comes from a reached literal comes from the one that is marked
     back : ((i : ℕ) → Marked m i → i ≡ p) → (o : ℤ) (j : ℕ) → Reached w n S p m j → T (from len (lit j) o) → T (from len (lit p) o)
     back sole o j (start x) t = subst (λ i. T (from len (lit i) o)) (sole j x) t
@@ -169,15 +174,15 @@ module _ (lim : Limits) (w : List ℕ) (c : Counters) (h : Whole lim w c) where
 
     -- ---- the test of the code is that of the book
 
-    module _ (one : Marked m p) (sole : (i : ℕ) → Marked m i → i ≡ p) (m' : List Bool) (a : Adds (Reached w n S p m) m m') where
+    module _ (one : Marked m p) (sole : (i : ℕ) → Marked m i → i ≡ p) (m' : List ℕ) (a : Adds (Reached w n S p m) m m') where
       chosen_is : (j : ℕ) → j < len → origin_marked w n m' j ≡ from len (lit p) (lit j)
       chosen_is j l = same_test (origin_marked w n m' j) (from len (lit p) (lit j)) told tells
         where
           told : T (origin_marked w n m' j) → T (from len (lit p) (lit j))
           told t =
-              let b = get_or m' j false in
+              let b = not (eqb (get_or m' j 0) 0) in
               let d = eqb (row_at w n j).reason 0 in
-              let y : Reached w n S p m j = ⊎_elim start (λ r. r) (a.only j (is_true (and_first b d t))) in
+              let y : Reached w n S p m j = ⊎_elim start (λ r. r) (a.only j (marked_told m' j (and_first b d t))) in
               back sole (lit j) j y
               (subst T (sym (at_own_row j len (lit j) l (omega arith))) (own_given j (lit j) (eqb→eq (row_at w n j).reason 0 (and_second b d t)) refl))
 

@@ -7,7 +7,7 @@ use calls::Refusal;
 use trail_check::Trail;
 
 // Marks what the literal at a position rests on, in a table without marks, and counts the given literals among it.
-fn choose(area: &[u64], position: usize, marks: &mut [bool]) -> usize
+fn choose(area: &[u64], position: usize, marks: &mut [u8]) -> usize
     requires { OriginsAsked area.now position × Blank area.now marks.old }
     ensures { Choice area.now position marks.new result }
 {
@@ -17,7 +17,7 @@ fn choose(area: &[u64], position: usize, marks: &mut [bool]) -> usize
         n: sizes.atoms,
         len: area::length_of(area),
     };
-    marks[position] = true;
+    marks[position] = 1;
     marking::mark(area, sizes, position, marks);
     chosen::count_chosen(trail, marks)
 }
@@ -27,7 +27,7 @@ pub fn list_origins(area: &[u64], position: usize, list: &mut [i64]) -> Result<u
     requires { OriginsAsked area.now position }
     ensures { Handed (origins_at area.now position) list.old list.new result }
 {
-    let mut marks = [false; 4097];
+    let mut marks = [0u8; 4097];
     let needed = choose(area, position, &mut marks);
     if list.len() < needed {
         return Err(Refusal::TooShort(needed as u64));

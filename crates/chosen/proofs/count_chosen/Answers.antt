@@ -16,7 +16,7 @@ loop-i-preserved c =
           arith,
           w.found-is,
           c.loop-i.invariant.1,
-          counted_more _ c.args.trail.n _ c.loop-i.i _ c.chosen_at.ensures (sym c.is_some.ensures ∙ w.if-is_some.true),
+          counted_more _ c.args.trail.n c.args.marks.now c.loop-i.i _ c.chosen_at.ensures (sym c.is_some.ensures ∙ w.if-is_some.true),
         ),
       )
       | else-is_some w ↦ (
@@ -25,7 +25,7 @@ loop-i-preserved c =
           arith,
           w.found-is,
           c.loop-i.invariant.1,
-          counted_same _ c.args.trail.n _ c.loop-i.i _ c.chosen_at.ensures (sym c.is_some.ensures ∙ w.if-is_some.false),
+          counted_same _ c.args.trail.n c.args.marks.now c.loop-i.i _ c.chosen_at.ensures (sym c.is_some.ensures ∙ w.if-is_some.false),
         ),
       )
     ]

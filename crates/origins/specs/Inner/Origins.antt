@@ -1,5 +1,5 @@
 -- What origin asks of the area, what it chooses, and how a list is handed over.
-use Rattle.std.specs.Prelude.{◌≡◌, Bool, false, List, ℕ, ◌<◌, ◌≤◌, ℤ, length, get_or, Result, Ok, Err}
+use Rattle.std.specs.Prelude.{◌≡◌, List, ℕ, ◌<◌, ◌≤◌, ℤ, length, get_or, Result, Ok, Err}
 use Rattle.types.specs.declared.Limits.{Limits}
 use Rattle.types.specs.Limits.{Fitting}
 use Rattle.book.specs.Rows.{origins}
@@ -20,8 +20,8 @@ pub record OriginsAsked (w : List ℕ) (p : ℕ) : Type 0 where
   pub position : p < length_of w
 
 -- no mark, and room for every position
-pub record Blank (w : List ℕ) (m : List Bool) : Type 0 where
-  pub none : (i : ℕ) → get_or m i false ≡ false
+pub record Blank (w m : List ℕ) : Type 0 where
+  pub none : (i : ℕ) → get_or m i 0 ≡ 0
   pub room : length_of w ≤ length m
 
 -- the origins of the literal at position p
@@ -29,7 +29,7 @@ abbrev pub origins_at : List ℕ → ℕ → List ℤ
 origins_at w p = origins (scopes (judged_all (theory_of w))) (rows_of w) (row_at w (atoms_of w) p).literal
 
 -- the chosen literals by the marks m are those origins, r in number
-pub record Choice (w : List ℕ) (p : ℕ) (m : List Bool) (r : ℕ) : Type 0 where
+pub record Choice (w : List ℕ) (p : ℕ) (m : List ℕ) (r : ℕ) : Type 0 where
   pub room : length_of w ≤ length m
   pub literals : chosen_literals w (atoms_of w) m (length_of w) ≡ origins_at w p
   pub counted : r ≡ length (origins_at w p)
