@@ -10,7 +10,7 @@ use Rattle.numbers.specs.Text.{bytes}
 use Rattle.meaning.specs.Meaning.{Entry}
 use Rattle.opb_grammar.specs.declared.Phase.TheVariants.{AfterTerm}
 use Rattle.opb_grammar.specs.declared.State.{State}
-use Rattle.std.specs.Prelude.{Some, None, Result, Ok, Err}
+use Rattle.std.specs.Prelude.{Option, Some, None, Result, Ok, Err}
 use Rattle.opb_grammar.specs.declared.Fault.{Fault}
 use Rattle.opb_grammar.specs.declared.Fault.TheVariants.{Form, Count, Digits, TooLong, TooMany}
 use Rattle.opb_grammar.specs.declared.Next.{Next}
@@ -80,7 +80,11 @@ pub all_taken : map (λ (r : Row). reading r.text) good ≡ map (λ (r : Row). r
 unfolding reading go transition more long_fault v_fault c_fault variable_fault expect begin between relation_at_least relation_equal finish ends behind
 all_taken = refl
 
--- ---- texts that are refused, with the number of constraints complete before the fault: 20 is `Form`, 21 `Count`, 22 `Digits`, 23 `TooLong` and 24 `TooMany`
+-- ---- texts that are refused, with the number of constraints complete before the fault
+
+-- document 01's numbers of the faults that the texts below are refused by
+pub numbers_of_faults : map fault_number (Form ∷ Count ∷ Digits ∷ TooLong ∷ TooMany ∷ []) ≡ 20 ∷ 21 ∷ 22 ∷ 23 ∷ 24 ∷ []
+numbers_of_faults = refl
 
 abbrev pub bad : List Row
 bad =
@@ -170,9 +174,15 @@ pub entries_full :
 unfolding relation_equal
 entries_full = refl
 
+-- the number of a fault, 0 for none
+abbrev pub number_of : Option Fault → ℕ
+number_of None = 0
+number_of (Some f) = fault_number f
+
 -- 21 before 24
 pub variables_full :
-    variable_fault (counted 1 4095 0) ∷ variable_fault (counted 1 4096 0) ∷ variable_fault (sizing (counted 1 4096 0) AfterTerm (record { variables = 2; constraints = 1 })) ∷ []
-    ≡ None ∷ Some TooMany ∷ Some Count ∷ []
+    map number_of
+    (variable_fault (counted 1 4095 0) ∷ variable_fault (counted 1 4096 0) ∷ variable_fault (sizing (counted 1 4096 0) AfterTerm (record { variables = 2; constraints = 1 })) ∷ [])
+    ≡ 0 ∷ 24 ∷ 21 ∷ []
 unfolding variable_fault
 variables_full = refl
