@@ -6,7 +6,6 @@
 use calls::{Bound, Refusal};
 use columns::SentenceColumns;
 use search::Searched;
-use std::io;
 use test_parts::{M4, NO_SENTENCES};
 use types::{Atom, Counters, Level, Sentence};
 
@@ -68,118 +67,118 @@ const M10: SentenceColumns<'static> = SentenceColumns {
 };
 
 // A bound: its number, or which infinite one it is.
-fn show_bound(rt: &impl Print, bound: Bound) -> io::Result<()> {
-    match bound {
+fn show_bound(rt: &impl Print, bound: Bound) {
+    let _ = match bound {
         Bound::BelowAll => print!(rt; " below"),
         Bound::AboveAll => print!(rt; " above"),
         Bound::Number(z) => print!(rt; " {z}"),
-    }
+    };
 }
 
-fn show_bounds(rt: &impl Print, area: &[u64], counters: Counters) -> io::Result<()> {
+fn show_bounds(rt: &impl Print, area: &[u64], counters: Counters) {
     match dalelead::bounds(area, counters, Sentence(1)) {
         Ok(bounds) => {
-            print!(rt; "bounds 0")?;
-            show_bound(rt, bounds.least)?;
-            show_bound(rt, bounds.greatest)?;
-            println!(rt)
+            let _ = print!(rt; "bounds 0");
+            show_bound(rt, bounds.least);
+            show_bound(rt, bounds.greatest);
+            let _ = println!(rt);
         }
-        Err(refusal) => println!(rt; "bounds {} 0 0", refusal.code()),
+        Err(refusal) => {
+            let _ = println!(rt; "bounds {} 0 0", refusal.code());
+        }
     }
 }
 
-fn show_list(rt: &impl Print, list: &[i64]) -> io::Result<()> {
+fn show_list(rt: &impl Print, list: &[i64]) {
     for number in list {
-        print!(rt; " {number}")?;
+        let _ = print!(rt; " {number}");
     }
-    println!(rt)
+    let _ = println!(rt);
 }
 
-fn show_trail(rt: &impl Print, area: &[u64], counters: Counters) -> io::Result<()> {
+fn show_trail(rt: &impl Print, area: &[u64], counters: Counters) {
     let mut list = [0i64; 18];
     match dalelead::list_trail(area, counters, &mut list) {
         Ok(length) => {
-            print!(rt; "trail 0 {length}")?;
-            show_list(rt, &list[..length.min(18) as usize])
+            let _ = print!(rt; "trail 0 {length}");
+            show_list(rt, &list[..length.min(18) as usize]);
         }
-        Err(refusal) => println!(rt; "trail {} {}", refusal.code(), refusal.value()),
+        Err(refusal) => {
+            let _ = println!(rt; "trail {} {}", refusal.code(), refusal.value());
+        }
     }
 }
 
 // One sentence over six atoms, and the literals given.
-fn example(rt: &impl Print, sentence: SentenceColumns<'_>, given: &[i64]) -> io::Result<()> {
+fn example(rt: &impl Print, sentence: SentenceColumns<'_>, given: &[i64]) {
     let mut area = [0u64; 64];
     let answer = test_parts::load_one(&mut area, Atom(6), sentence);
-    println!(rt; "load {}", test_parts::loaded(answer).0)?;
-    let now = test_parts::give_all(rt, &mut area, given)?;
-    show_bounds(rt, &area, now)?;
-    let after = test_parts::show_propagate(rt, &mut area, now)?;
-    show_trail(rt, &area, after)?;
-    show_bounds(rt, &area, after)
+    let _ = println!(rt; "load {}", test_parts::loaded(answer).0);
+    let now = test_parts::give_all(rt, &mut area, given);
+    show_bounds(rt, &area, now);
+    let after = test_parts::show_propagate(rt, &mut area, now);
+    show_trail(rt, &area, after);
+    show_bounds(rt, &area, after);
 }
 
-fn sums(rt: &impl Print) -> io::Result<()> {
-    println!(rt; "M1")?;
-    example(rt, M1, &[-4, 5])?;
-    println!(rt; "M2")?;
-    example(rt, M1, &[6, 1])?;
-    println!(rt; "M3")?;
-    example(rt, M3, &[])?;
-    println!(rt; "M4")?;
-    example(rt, M4, &[3, 1])?;
-    println!(rt; "M5")?;
-    example(rt, M4, &[3, 1, 2])
+fn sums(rt: &impl Print) {
+    let _ = println!(rt; "M1");
+    example(rt, M1, &[-4, 5]);
+    let _ = println!(rt; "M2");
+    example(rt, M1, &[6, 1]);
+    let _ = println!(rt; "M3");
+    example(rt, M3, &[]);
+    let _ = println!(rt; "M4");
+    example(rt, M4, &[3, 1]);
+    let _ = println!(rt; "M5");
+    example(rt, M4, &[3, 1, 2]);
 }
 
-fn extremes(rt: &impl Print) -> io::Result<()> {
-    println!(rt; "M6")?;
-    example(rt, M6, &[])?;
-    println!(rt; "M7")?;
-    example(rt, M7, &[])?;
-    println!(rt; "M8")?;
-    example(rt, M8, &[3])?;
-    println!(rt; "M9")?;
-    example(rt, M9, &[-1])?;
-    println!(rt; "M10")?;
-    example(rt, M10, &[3])?;
-    example(rt, M10, &[3, 1])
+fn extremes(rt: &impl Print) {
+    let _ = println!(rt; "M6");
+    example(rt, M6, &[]);
+    let _ = println!(rt; "M7");
+    example(rt, M7, &[]);
+    let _ = println!(rt; "M8");
+    example(rt, M8, &[3]);
+    let _ = println!(rt; "M9");
+    example(rt, M9, &[-1]);
+    let _ = println!(rt; "M10");
+    example(rt, M10, &[3]);
+    example(rt, M10, &[3, 1]);
 }
 
 // M11: derived at level 1, taken back, and derived again at level 0.
-fn again(rt: &impl Print) -> io::Result<()> {
-    println!(rt; "M11")?;
+fn again(rt: &impl Print) {
+    let _ = println!(rt; "M11");
     let mut area = [0u64; 64];
     let _ = test_parts::load_one(&mut area, Atom(3), M4);
-    let given = test_parts::give_all(rt, &mut area, &[3, 1])?;
+    let given = test_parts::give_all(rt, &mut area, &[3, 1]);
     let opened = dalelead::open_level(&mut area, given);
-    println!(rt; "open {}", test_parts::code(opened))?;
+    let _ = println!(rt; "open {}", test_parts::code(opened));
     let level = opened.unwrap_or(given);
-    let derived = test_parts::show_propagate(rt, &mut area, level)?;
-    show_trail(rt, &area, derived)?;
+    let derived = test_parts::show_propagate(rt, &mut area, level);
+    show_trail(rt, &area, derived);
     let back = dalelead::take_back(&mut area, derived, Level(0));
-    println!(rt; "take back {}", test_parts::code(back))?;
+    let _ = println!(rt; "take back {}", test_parts::code(back));
     let left = back.unwrap_or(derived);
-    show_bounds(rt, &area, left)?;
-    let after = test_parts::show_propagate(rt, &mut area, left)?;
-    show_trail(rt, &area, after)
+    show_bounds(rt, &area, left);
+    let after = test_parts::show_propagate(rt, &mut area, left);
+    show_trail(rt, &area, after);
 }
 
 // M12: two sentences that refer to each other.
-fn ring_of_two(rt: &impl Print) -> io::Result<()> {
-    println!(rt; "M12")?;
+fn ring_of_two(rt: &impl Print) {
+    let _ = println!(rt; "M12");
     let mut area = [0u64; 28];
     test_parts::load_two(&mut area);
-    let given = test_parts::give_all(rt, &mut area, &[1])?;
-    let after = test_parts::show_propagate(rt, &mut area, given)?;
-    show_trail(rt, &area, after)
+    let given = test_parts::give_all(rt, &mut area, &[1]);
+    let after = test_parts::show_propagate(rt, &mut area, given);
+    show_trail(rt, &area, after);
 }
 
-fn show_search(
-    rt: &impl Print,
-    counters: Counters,
-    answer: Result<Searched, Refusal>,
-) -> io::Result<()> {
-    match answer {
+fn show_search(rt: &impl Print, counters: Counters, answer: Result<Searched, Refusal>) {
+    let _ = match answer {
         Ok(end) => println!(rt;
             "search 0 {} {} {} {} {}",
             end.sentence.map_or(0, |k| k.0),
@@ -194,39 +193,34 @@ fn show_search(
             counters.length,
             counters.level.0
         ),
-    }
+    };
 }
 
-fn show_search_of(
-    rt: &impl Print,
-    area: &mut [u64],
-    counters: Counters,
-    literals: &[i64],
-) -> io::Result<()> {
-    show_search(rt, counters, dalelead::search(area, counters, literals))
+fn show_search_of(rt: &impl Print, area: &mut [u64], counters: Counters, literals: &[i64]) {
+    show_search(rt, counters, dalelead::search(area, counters, literals));
 }
 
-fn show_same(rt: &impl Print, a: &[u64], b: &[u64]) -> io::Result<()> {
-    if a == b {
+fn show_same(rt: &impl Print, a: &[u64], b: &[u64]) {
+    let _ = if a == b {
         println!(rt; "words kept")
     } else {
         println!(rt; "words changed")
-    }
+    };
 }
 
 // On a ring of two: 10 for the list's last literal changes no word; without it the search goes through the list, the second literal passed over.
-fn refused_list(rt: &impl Print) -> io::Result<()> {
+fn refused_list(rt: &impl Print) {
     let mut area = [0u64; 28];
     test_parts::load_two(&mut area);
     let before = area;
-    show_search_of(rt, &mut area, Counters::start(), &[1, -2, 3])?;
-    show_same(rt, &area, &before)?;
-    show_search_of(rt, &mut area, Counters::start(), &[1, -2, 2])?;
-    show_same(rt, &area, &before)
+    show_search_of(rt, &mut area, Counters::start(), &[1, -2, 3]);
+    show_same(rt, &area, &before);
+    show_search_of(rt, &mut area, Counters::start(), &[1, -2, 2]);
+    show_same(rt, &area, &before);
 }
 
 // Open 1,025 times: the number of levels opened, and the last answer.
-fn open_all(rt: &impl Print, area: &mut [u64]) -> io::Result<Counters> {
+fn open_all(rt: &impl Print, area: &mut [u64]) -> Counters {
     let mut now = Counters::start();
     let mut opened: u64 = 0;
     let mut last: u64 = 0;
@@ -238,46 +232,46 @@ fn open_all(rt: &impl Print, area: &mut [u64]) -> io::Result<Counters> {
             opened = turn + 1;
         }
     }
-    println!(rt; "levels {opened} {last}")?;
-    Ok(now)
+    let _ = println!(rt; "levels {opened} {last}");
+    now
 }
 
 // At the highest level an open literal ends the search, with no refusal, and one that is on the trail is passed over.
-fn levels(rt: &impl Print) -> io::Result<()> {
+fn levels(rt: &impl Print) {
     let mut area = [0u64; 4];
     let _ = dalelead::load(&mut area, Atom(1), NO_SENTENCES);
-    let top = open_all(rt, &mut area)?;
-    show_search_of(rt, &mut area, top, &[1])?;
-    let given = test_parts::give_one(rt, &mut area, top, 1)?;
-    show_search_of(rt, &mut area, given, &[-1, 1])
+    let top = open_all(rt, &mut area);
+    show_search_of(rt, &mut area, top, &[1]);
+    let given = test_parts::give_one(rt, &mut area, top, 1);
+    show_search_of(rt, &mut area, given, &[-1, 1]);
 }
 
-fn load_ring(rt: &impl Print, area: &mut [u64]) -> io::Result<()> {
-    println!(rt; "ring {}", test_parts::load_ring(area))
+fn load_ring(rt: &impl Print, area: &mut [u64]) {
+    let _ = println!(rt; "ring {}", test_parts::load_ring(area));
 }
 
 // Sentence i: head i, 1 <= sum {(1, the next head)}. One atom given, the others follow round the ring; then searches on it.
-fn ring(rt: &impl Print) -> io::Result<()> {
+fn ring(rt: &impl Print) {
     let mut area = [0u64; 3584];
-    load_ring(rt, &mut area)?;
-    let given = test_parts::give_all(rt, &mut area, &[1])?;
-    test_parts::show_propagate(rt, &mut area, given)?;
-    load_ring(rt, &mut area)?;
-    show_search_of(rt, &mut area, Counters::start(), &[7, 7, 8])?;
-    load_ring(rt, &mut area)?;
-    show_search_of(rt, &mut area, Counters::start(), &[7, 0])?;
-    load_ring(rt, &mut area)?;
-    let both = test_parts::give_all(rt, &mut area, &[1, -5])?;
-    show_search_of(rt, &mut area, both, &[7])?;
-    show_search_of(rt, &mut area, Counters::start(), &[7])
+    load_ring(rt, &mut area);
+    let given = test_parts::give_all(rt, &mut area, &[1]);
+    test_parts::show_propagate(rt, &mut area, given);
+    load_ring(rt, &mut area);
+    show_search_of(rt, &mut area, Counters::start(), &[7, 7, 8]);
+    load_ring(rt, &mut area);
+    show_search_of(rt, &mut area, Counters::start(), &[7, 0]);
+    load_ring(rt, &mut area);
+    let both = test_parts::give_all(rt, &mut area, &[1, -5]);
+    show_search_of(rt, &mut area, both, &[7]);
+    show_search_of(rt, &mut area, Counters::start(), &[7]);
 }
 
-fn main(rt: HostRuntime) -> io::Result<()> {
-    sums(&rt)?;
-    extremes(&rt)?;
-    again(&rt)?;
-    ring_of_two(&rt)?;
-    refused_list(&rt)?;
-    levels(&rt)?;
-    ring(&rt)
+fn main(rt: HostRuntime) {
+    sums(&rt);
+    extremes(&rt);
+    again(&rt);
+    ring_of_two(&rt);
+    refused_list(&rt);
+    levels(&rt);
+    ring(&rt);
 }

@@ -12,7 +12,6 @@ ghost use Rattle.lent.specs.Lent.{GivesIn, PropagatesIn, SearchesIn};
 use calls::Refusal;
 use lent::{SearchStop, Stop};
 use lent_records::{Sentences, Weighted};
-use std::io;
 use types::{Atom, Counters, Level};
 
 // Two records by value, lent as a list.
@@ -52,33 +51,23 @@ fn search_held(
 
 // ---- what is written
 
-fn show_give(
-    rt: &impl Print,
-    area: &mut [u64],
-    held: &mut Counters,
-    literal: i64,
-) -> io::Result<()> {
+fn show_give(rt: &impl Print, area: &mut [u64], held: &mut Counters, literal: i64) {
     let code = test_parts::code(give_held(area, held, literal));
-    println!(rt; "give {code} {} {}", held.length, held.level.0)
+    let _ = println!(rt; "give {code} {} {}", held.length, held.level.0);
 }
 
-fn show_propagate(rt: &impl Print, area: &mut [u64], held: &mut Counters) -> io::Result<()> {
+fn show_propagate(rt: &impl Print, area: &mut [u64], held: &mut Counters) {
     let (code, sentence, count) = match propagate_held(area, held) {
         Ok(stop) => (0, stop.sentence.map_or(0, |k| k.0), stop.count),
         Err(refusal) => (refusal.code(), 0, 0),
     };
-    println!(rt;
+    let _ = println!(rt;
         "propagate {code} {sentence} {count} {} {}",
         held.length, held.level.0
-    )
+    );
 }
 
-fn show_search(
-    rt: &impl Print,
-    area: &mut [u64],
-    held: &mut Counters,
-    literals: &[i64],
-) -> io::Result<()> {
+fn show_search(rt: &impl Print, area: &mut [u64], held: &mut Counters, literals: &[i64]) {
     let (code, sentence, count, gone) = match search_held(area, held, literals) {
         Ok(end) => (
             0,
@@ -88,18 +77,13 @@ fn show_search(
         ),
         Err(refusal) => (refusal.code(), 0, 0, 0),
     };
-    println!(rt;
+    let _ = println!(rt;
         "search {code} {sentence} {count} {gone} {} {}",
         held.length, held.level.0
-    )
+    );
 }
 
-fn show_load(
-    rt: &impl Print,
-    area: &mut [u64],
-    first: Weighted,
-    second: Weighted,
-) -> io::Result<()> {
+fn show_load(rt: &impl Print, area: &mut [u64], first: Weighted, second: Weighted) {
     let answer = load_two(
         area,
         Atom(3),
@@ -113,10 +97,10 @@ fn show_load(
         [first, second],
     );
     let (code, sentence) = test_parts::loaded(answer);
-    println!(rt; "load {code} {sentence}")
+    let _ = println!(rt; "load {code} {sentence}");
 }
 
-fn main(rt: HostRuntime) -> io::Result<()> {
+fn main(rt: HostRuntime) {
     let mut area = [0u64; 24];
     let one = Weighted {
         weight: 1,
@@ -130,20 +114,20 @@ fn main(rt: HostRuntime) -> io::Result<()> {
         weight: 2,
         literal: 4,
     };
-    show_load(&rt, &mut area, one, strange)?;
-    show_load(&rt, &mut area, one, two)?;
+    show_load(&rt, &mut area, one, strange);
+    show_load(&rt, &mut area, one, two);
     let mut held = Counters::start();
-    show_give(&rt, &mut area, &mut held, 3)?;
-    show_give(&rt, &mut area, &mut held, 1)?;
-    show_give(&rt, &mut area, &mut held, 3)?;
+    show_give(&rt, &mut area, &mut held, 3);
+    show_give(&rt, &mut area, &mut held, 1);
+    show_give(&rt, &mut area, &mut held, 3);
     let mut other = Counters {
         length: 1,
         level: Level(0),
     };
-    show_propagate(&rt, &mut area, &mut other)?;
-    show_propagate(&rt, &mut area, &mut held)?;
-    show_load(&rt, &mut area, one, two)?;
+    show_propagate(&rt, &mut area, &mut other);
+    show_propagate(&rt, &mut area, &mut held);
+    show_load(&rt, &mut area, one, two);
     held = Counters::start();
-    show_search(&rt, &mut area, &mut held, &[3, 2, 4])?;
-    show_search(&rt, &mut area, &mut held, &[3, 2, 1])
+    show_search(&rt, &mut area, &mut held, &[3, 2, 4]);
+    show_search(&rt, &mut area, &mut held, &[3, 2, 1]);
 }

@@ -4,7 +4,7 @@
 
 use calls::Refusal;
 use columns::Columns;
-use std::{array, io};
+use std::array;
 use test_parts::M4;
 use types::{Atom, Counters, Sentence};
 
@@ -16,105 +16,89 @@ fn give_all(area: &mut [u64], literals: &[i64]) -> Counters {
 }
 
 // What a list call answers: its code, its value, and the list.
-fn show(rt: &impl Print, name: &str, answer: Result<u64, Refusal>, list: &[i64]) -> io::Result<()> {
+fn show(rt: &impl Print, name: &str, answer: Result<u64, Refusal>, list: &[i64]) {
     match answer {
         Ok(length) => {
-            print!(rt; "{name} 0 {length}")?;
+            let _ = print!(rt; "{name} 0 {length}");
             for number in list.iter().take(length as usize) {
-                print!(rt; " {number}")?;
+                let _ = print!(rt; " {number}");
             }
-            println!(rt)
+            let _ = println!(rt);
         }
-        Err(refusal) => println!(rt; "{name} {} {}", refusal.code(), refusal.value()),
+        Err(refusal) => {
+            let _ = println!(rt; "{name} {} {}", refusal.code(), refusal.value());
+        }
     }
 }
 
-fn explain(
-    rt: &impl Print,
-    area: &[u64],
-    counters: Counters,
-    literal: i64,
-    list: &mut [i64],
-) -> io::Result<()> {
+fn explain(rt: &impl Print, area: &[u64], counters: Counters, literal: i64, list: &mut [i64]) {
     let answer = dalelead::explain(area, counters, literal, list);
-    show(rt, "explain", answer, list)
+    show(rt, "explain", answer, list);
 }
 
-fn conflict(
-    rt: &impl Print,
-    area: &[u64],
-    counters: Counters,
-    sentence: u64,
-    list: &mut [i64],
-) -> io::Result<()> {
+fn conflict(rt: &impl Print, area: &[u64], counters: Counters, sentence: u64, list: &mut [i64]) {
     let answer = dalelead::explain_conflict(area, counters, Sentence(sentence), list);
-    show(rt, "conflict", answer, list)
+    show(rt, "conflict", answer, list);
 }
 
-fn origin(
-    rt: &impl Print,
-    area: &[u64],
-    counters: Counters,
-    literal: i64,
-    list: &mut [i64],
-) -> io::Result<()> {
+fn origin(rt: &impl Print, area: &[u64], counters: Counters, literal: i64, list: &mut [i64]) {
     let answer = dalelead::origin(area, counters, literal, list);
-    show(rt, "origin", answer, list)
+    show(rt, "origin", answer, list);
 }
 
 // The derived literal, with too short a list, a given one, one whose negation is on the trail, and one of no atom.
-fn explained(rt: &impl Print, area: &[u64], counters: Counters) -> io::Result<()> {
-    explain(rt, area, counters, -2, &mut [0; 3])?;
-    explain(rt, area, counters, -2, &mut [0; 2])?;
-    explain(rt, area, counters, 3, &mut [0; 3])?;
-    explain(rt, area, counters, 2, &mut [0; 3])?;
-    explain(rt, area, counters, 4, &mut [0; 3])
+fn explained(rt: &impl Print, area: &[u64], counters: Counters) {
+    explain(rt, area, counters, -2, &mut [0; 3]);
+    explain(rt, area, counters, -2, &mut [0; 2]);
+    explain(rt, area, counters, 3, &mut [0; 3]);
+    explain(rt, area, counters, 2, &mut [0; 3]);
+    explain(rt, area, counters, 4, &mut [0; 3]);
 }
 
-fn m4(rt: &impl Print) -> io::Result<()> {
-    println!(rt; "M4")?;
+fn m4(rt: &impl Print) {
+    let _ = println!(rt; "M4");
     let mut area = [0u64; 24];
     let _ = test_parts::load_one(&mut area, Atom(3), M4);
     let given = give_all(&mut area, &[3, 1]);
-    let after = test_parts::show_propagate(rt, &mut area, given)?;
-    explained(rt, &area, after)?;
-    origin(rt, &area, after, -2, &mut [0; 2])?;
-    origin(rt, &area, after, -2, &mut [0; 1])?;
-    conflict(rt, &area, after, 1, &mut [0; 3])
+    let after = test_parts::show_propagate(rt, &mut area, given);
+    explained(rt, &area, after);
+    origin(rt, &area, after, -2, &mut [0; 2]);
+    origin(rt, &area, after, -2, &mut [0; 1]);
+    conflict(rt, &area, after, 1, &mut [0; 3]);
 }
 
-fn m5(rt: &impl Print) -> io::Result<()> {
-    println!(rt; "M5")?;
+fn m5(rt: &impl Print) {
+    let _ = println!(rt; "M5");
     let mut area = [0u64; 24];
     let _ = test_parts::load_one(&mut area, Atom(3), M4);
     let given = give_all(&mut area, &[3, 1, 2]);
-    let after = test_parts::show_propagate(rt, &mut area, given)?;
-    conflict(rt, &area, after, 1, &mut [0; 4])?;
-    conflict(rt, &area, after, 1, &mut [0; 2])?;
-    conflict(rt, &area, after, 2, &mut [0; 4])?;
-    conflict(rt, &area, Counters::start(), 1, &mut [0; 4])
+    let after = test_parts::show_propagate(rt, &mut area, given);
+    conflict(rt, &area, after, 1, &mut [0; 4]);
+    conflict(rt, &area, after, 1, &mut [0; 2]);
+    conflict(rt, &area, after, 2, &mut [0; 4]);
+    conflict(rt, &area, Counters::start(), 1, &mut [0; 4]);
 }
 
-fn m12(rt: &impl Print) -> io::Result<()> {
-    println!(rt; "M12")?;
+fn m12(rt: &impl Print) {
+    let _ = println!(rt; "M12");
     let mut area = [0u64; 28];
     test_parts::load_two(&mut area);
     let given = give_all(&mut area, &[1]);
-    let after = test_parts::show_propagate(rt, &mut area, given)?;
-    explain(rt, &area, after, 2, &mut [0; 2])?;
-    origin(rt, &area, after, 2, &mut [0; 2])?;
-    origin(rt, &area, after, 1, &mut [0; 2])
+    let after = test_parts::show_propagate(rt, &mut area, given);
+    explain(rt, &area, after, 2, &mut [0; 2]);
+    origin(rt, &area, after, 2, &mut [0; 2]);
+    origin(rt, &area, after, 1, &mut [0; 2]);
 }
 
-fn ring(rt: &impl Print) -> io::Result<()> {
-    println!(rt; "ring of 256")?;
+fn ring(rt: &impl Print) {
+    let _ = println!(rt; "ring of 256");
     let mut area = [0u64; 3584];
     test_parts::load_ring(&mut area);
     let given = give_all(&mut area, &[1]);
-    let after = test_parts::show_propagate(rt, &mut area, given)?;
-    origin(rt, &area, after, 2, &mut [0; 4])?;
-    origin(rt, &area, after, 256, &mut [0; 4])?;
-    explain(rt, &area, after, 200, &mut [0; 4])
+    let after = test_parts::show_propagate(rt, &mut area, given);
+    origin(rt, &area, after, 2, &mut [0; 4]);
+    origin(rt, &area, after, 256, &mut [0; 4]);
+    explain(rt, &area, after, 200, &mut [0; 4]);
 }
 
 // Diamond d has atoms 3d + 1 above, 3d + 2 and 3d + 3 at its sides, and 3d + 4 below: each side follows from the atom above, and the atom
@@ -140,20 +124,20 @@ fn load_diamonds(area: &mut [u64]) -> u64 {
     test_parts::loaded(answer).0
 }
 
-fn diamonds(rt: &impl Print) -> io::Result<()> {
+fn diamonds(rt: &impl Print) {
     let mut area = [0u64; 3744];
-    println!(rt; "diamonds {}", load_diamonds(&mut area))?;
+    let _ = println!(rt; "diamonds {}", load_diamonds(&mut area));
     let given = give_all(&mut area, &[1]);
-    let after = test_parts::show_propagate(rt, &mut area, given)?;
-    explain(rt, &area, after, 256, &mut [0; 4])?;
-    origin(rt, &area, after, 256, &mut [0; 4])?;
-    origin(rt, &area, after, 2, &mut [])
+    let after = test_parts::show_propagate(rt, &mut area, given);
+    explain(rt, &area, after, 256, &mut [0; 4]);
+    origin(rt, &area, after, 256, &mut [0; 4]);
+    origin(rt, &area, after, 2, &mut []);
 }
 
-fn main(rt: HostRuntime) -> io::Result<()> {
-    m4(&rt)?;
-    m5(&rt)?;
-    m12(&rt)?;
-    ring(&rt)?;
-    diamonds(&rt)
+fn main(rt: HostRuntime) {
+    m4(&rt);
+    m5(&rt);
+    m12(&rt);
+    ring(&rt);
+    diamonds(&rt);
 }
