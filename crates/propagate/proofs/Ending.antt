@@ -65,12 +65,9 @@ module _ (lim : Limits) (w w' : List ℕ) (len level len' sentence : ℕ) (h : W
       (e ∙ ap (λ (o : Outcome). returned_by o.answer) (sym reply_is))
       (subst (Moved lim w w' (counters_with len' level)) (sym reply_is) moves)
 
-  pub acts_still : sentence ≡ 0 → Acts lim w w' (counters_with len level) (counters_with len' level) propagate (plain 0 (len' - len) 0)
-  acts_still e = acts (plain 0 (len' - len) 0) (ap {A = ℕ} (λ k. returned_by (ended k (len' - len))) (sym e))
-
-  pub acts_conflict : ¬ (sentence ≡ 0) → Acts lim w w' (counters_with len level) (counters_with len' level) propagate (plain 0 (len' - len) sentence)
-  acts_conflict d = acts (plain 0 (len' - len) sentence) (go sentence d)
+  pub acts_ended : (k : ℕ) → sentence ≡ k → Acts lim w w' (counters_with len level) (counters_with len' level) propagate (plain 0 (len' - len) k)
+  acts_ended k e = acts (plain 0 (len' - len) k) (ap {A = ℕ} (plain 0 (len' - len)) (sym e) ∙ go sentence)
     where
-      go : (k : ℕ) → ¬ (k ≡ 0) → plain 0 (len' - len) k ≡ returned_by (ended k (len' - len))
-      go zero d = absurd (d refl)
-      go (suc k) d = refl
+      go : (k : ℕ) → plain 0 (len' - len) k ≡ returned_by (ended k (len' - len))
+      go zero = refl
+      go (suc k) = refl

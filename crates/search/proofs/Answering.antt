@@ -7,7 +7,7 @@ use lib.IntN.{ℤ}
 use lib.Dec.{T}
 use Rattle.types.specs.declared.Limits.{Limits}
 use Rattle.book.specs.Rows.{any}
-use Rattle.book.specs.Table.{search, returned_by, State, no_atom, Outcome}
+use Rattle.book.specs.Table.{search, Returned, returned_by, State, no_atom, Outcome}
 use Rattle.book.specs.Book.{Counters}
 use Rattle.area.specs.Layout.{atoms_of}
 use Rattle.area.specs.Whole.{Whole}
@@ -34,11 +34,16 @@ module _ (lim : Limits) (w : List ℕ) (ls : List ℤ) where
 
   -- ---- not refused
 
+  -- whatever is handed back: it is the loop's end
+  pub acts_handed : (c : Counters) → Whole lim w c → AllKnown (atoms_of w) ls → (w' : List ℕ) (r : Searched) → Ends lim w w' ls r
+      → (c' : Counters) (p : Returned) → c' ≡ counted r.counters → p ≡ end_returned r → Acts lim w w' c c' (search ls) p
+  acts_handed c h k w' r e c' p after told =
+      let o = (replied lim w (search ls)).passes (sym (known_code k)) in
+      acts_moved lim w c (search ls) p w' c' h
+      (subst (λ (x : Outcome). T (not (is_refusal x.answer || false))) (sym o) tt)
+      (told ∙ e.answer ∙ ap {A = Outcome} (λ x. returned_by x.answer) (sym o))
+      (rw after (subst (λ (x : Outcome). Moved lim w w' (counted r.counters) x) (sym o) e.moved))
+
   pub acts_searched : (c : Counters) → Whole lim w c → AllKnown (atoms_of w) ls → (w' : List ℕ) (r : Searched) → Ends lim w w' ls r
       → Acts lim w w' c (counted r.counters) (search ls) (end_returned r)
-  acts_searched c h k w' r e =
-      let o = (replied lim w (search ls)).passes (sym (known_code k)) in
-      acts_moved lim w c (search ls) (end_returned r) w' (counted r.counters) h
-      (subst (λ (x : Outcome). T (not (is_refusal x.answer || false))) (sym o) tt)
-      (e.answer ∙ ap {A = Outcome} (λ x. returned_by x.answer) (sym o))
-      (subst (λ (x : Outcome). Moved lim w w' (counted r.counters) x) (sym o) e.moved)
+  acts_searched c h k w' r e = acts_handed c h k w' r e (counted r.counters) (end_returned r) refl refl

@@ -1,11 +1,11 @@
 -- Where the loop stops, the rows are those of the table's run, and the answer is the table's (`Ending`).
-use Rattle.std.proofs.Common.{ap, sym}
+use Rattle.std.proofs.Common.{sym, arith}
 use Rattle.types.specs.Sentences.{number_of}
 use Rattle.types.specs.declared.Limits.{Limits}
 use Rattle.calls.specs.Calls.{counted}
 use Rattle.whole.specs.Inner.Usable.{Usable}
 use Rattle.derive.specs.Inner.Stopped.{Stopped}
-use Rattle.propagate.proofs.Ending.{longer, acts_still, acts_conflict}
+use Rattle.propagate.proofs.Ending.{longer, acts_ended}
 use Rattle.propagate.proofs.propagate_whole.Goals as goal
 use Rattle.propagate.proofs.propagate_whole.Goals.{After-run-end}
 
@@ -22,9 +22,8 @@ overflow_sub-put c =
 
 pub returns-in-None-clause-acts : goal.returns-in-None-clause-acts
 returns-in-None-clause-acts c lim u =
-    acts_still _ _ _ _ _ _ _ u.whole (stopped ((goal.at.returns-in-None-clause-acts c).After-run-end) lim u) (ap number_of c.in-None.is)
+    acts_ended _ _ _ _ _ _ _ u.whole (stopped ((goal.at.returns-in-None-clause-acts c).After-run-end) lim u) _ (grind arith)
 
 pub returns-in-Some-clause-acts : goal.returns-in-Some-clause-acts
 returns-in-Some-clause-acts c lim u =
-    let st = rw c.in-Some.is at (stopped ((goal.at.returns-in-Some-clause-acts c).After-run-end) lim u) in
-    acts_conflict _ _ _ _ _ _ _ u.whole st (rw c.in-Some.is at c.run-end.ensures.named)
+    acts_ended _ _ _ _ _ _ _ u.whole (stopped ((goal.at.returns-in-Some-clause-acts c).After-run-end) lim u) _ (grind arith)
