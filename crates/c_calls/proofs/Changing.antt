@@ -210,6 +210,11 @@ pub record Found (lim : Limits) (w : List ℕ) (c : Counters) (x : Step) (A : Ty
   pub whole : Whole lim w c
   pub code : code_in found ≡ refusal_code lim w x
 
+-- and of whatever else it is given, where that has the same code
+pub asked_for : {lim : Limits} {w : List ℕ} {c : Counters} {x : Step} {A B : Type 0} {found : Result A Refusal} {asked : Result B Refusal}
+    → Found lim w c x A found → code_in asked ≡ code_in found → Found lim w c x B asked
+asked_for f same = record { whole = f.whole; code = same ∙ f.code }
+
 module _ {lim : Limits} {w : List ℕ} {c : Counters} {x : Step} {A : Type 0} {found : Result A Refusal} (f : Found lim w c x A found) (handed : Outcome → List ℕ) (out : List ℕ) where
   asked : Asked lim w c x handed out (code_in found) (refusal_number (size lim w x handed) (length out) (readied found (size lim w x handed) (length out)))
   asked = record {

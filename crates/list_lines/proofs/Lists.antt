@@ -1,9 +1,9 @@
 -- One number more, behind the first i; and the front of a list.
-use mathlib.Core.Path.{◌≡◌, refl, sym, ap, ◌∙◌}
+use mathlib.Core.Path.{◌≡◌, refl, sym, ap, ◌∙◌, subst}
 use mathlib.Core.List.{List, [], ◌∷◌, ◌++◌, append_assoc, append-nil}
 use Prim.Native.Nat.{ℕ, zero, suc, ◌+◌, ◌<◌}
 use native.Mathlib.Numerals.{add-one}
-use lib.ListN.{length, take, get_or}
+use lib.ListN.{length, take, drop, get_or}
 use lib.Seq.{take-suc}
 use lib.IntN.{ℤ, pos}
 use mir.Syntax.{w64}
@@ -30,12 +30,18 @@ no_more (x ∷ xs) = refl
 pub no_numbers : (xs : List ℤ) (p : Page) → Puts p p (numbers (take 0 xs))
 no_numbers xs p = puts_as (sym (no_more xs)) (nothing p)
 
-pub number_more : {p q s : Page} (xs : List ℤ) (i : ℕ) → i < length xs → SFits w64 (get_or xs i (pos 0)) → Puts p q (numbers (take i xs))
-    → Puts q s (named (bytes " ") (to_z w64 (of_z w64 (get_or xs i (pos 0))))) → Puts p s (numbers (take (i + 1) xs))
-number_more xs i l f w v =
+-- the list gone through is that list
+pub number_more : {p q s : Page} (xs ys : List ℤ) (i : ℕ) → ys ≡ xs → i < length ys → SFits w64 (get_or ys i (pos 0)) → Puts p q (numbers (take i xs))
+    → Puts q s (named (bytes " ") (to_z w64 (of_z w64 (get_or ys i (pos 0))))) → Puts p s (numbers (take (i + 1) xs))
+number_more xs ys i same l f w v =
     puts_as
-    (sym (numbers_last (take i xs) (get_or xs i (pos 0))) ∙ ap numbers (sym (take-suc xs i (pos 0) l)) ∙ ap (λ (k : ℕ). numbers (take k xs)) (sym (add-one i)))
-    (then w (named_put (bytes " ") (get_or xs i (pos 0)) f v))
+    (sym (numbers_last (take i xs) (get_or ys i (pos 0))) ∙ ap (λ (zs : List ℤ). numbers (take i xs ++ (get_or zs i (pos 0) ∷ []))) same
+    ∙ ap numbers (sym (take-suc xs i (pos 0) (subst (λ (zs : List ℤ). i < length zs) same l))) ∙ ap (λ (k : ℕ). numbers (take k xs)) (sym (add-one i)))
+    (then w (named_put (bytes " ") (get_or ys i (pos 0)) f v))
+
+-- a list from its first number on is all of it
+pub none_gone : (k : ℕ) (xs : List ℤ) → k ≡ 0 → drop k xs ≡ xs
+none_gone k xs z = ap {A = ℕ} (λ j. drop j xs) z
 
 -- a front of the list as long as the answer says, or all of it
 pub front : (k : ℕ) (xs : List ℤ) → take (length (take k xs)) xs ≡ take k xs

@@ -4,7 +4,7 @@ use Rattle.std.proofs.lemmas.Result.{err_from_is_err_and}
 use Rattle.book.specs.Table.{take_back}
 use Rattle.calls.specs.Calls.{counted}
 use Rattle.c_interface.specs.Interface.{next_counters}
-use Rattle.c_calls.proofs.Changing.{Found, ready_refused, ready_few, ready_never, ready_done, two_words}
+use Rattle.c_calls.proofs.Changing.{Found, asked_for, ready_refused, ready_few, ready_never, ready_done, two_words}
 use Rattle.c_calls.proofs.take_back.Goals as goal
 use Rattle.c_calls.proofs.take_back.Goals.{After-check_take_back}
 
@@ -18,19 +18,19 @@ returns-in_err-ready c =
     let f = found (goal.at.returns-in_err-ready c).After-check_take_back in
     let p = err_from_is_err_and c.from_residual.result c.from_residual.ensures.1 in
     record {
-      changes = rw (p.1, p.2) (ready_refused f next_counters c.args.next.now _ c.in_err-ready.ensures);
-      small = rw (p.1, p.2) (ready_few f next_counters c.args.next.now (omega arith) _ c.in_err-ready.ensures);
+      changes = rw (p.1, p.2) (ready_refused (asked_for f (grind arith)) next_counters c.args.next.now _ c.in_err-ready.ensures);
+      small = rw (p.1, p.2) (ready_few (asked_for f (grind arith)) next_counters c.args.next.now (omega arith) _ c.in_err-ready.ensures);
     }
 
 pub returns-in_err-left : goal.returns-in_err-left
 returns-in_err-left c =
     let f = found (goal.at.returns-in_err-left c).After-check_take_back in
-    absurd (ready_never f next_counters c.args.next.now c.in_ok-ready.ensures _
+    absurd (ready_never (asked_for f (grind arith)) next_counters c.args.next.now c.in_ok-ready.ensures _
     (c.in_err-left.ensures c.args.lim (record { fitting = c.requires; whole = f.whole })))
 
 pub returns-clause-changes : goal.returns-clause-changes
 returns-clause-changes c =
     let f = found (goal.at.returns-clause-changes c).After-check_take_back in
-    ready_done f next_counters c.args.next.now c.in_ok-ready.ensures two_words refl
+    ready_done (asked_for f (grind arith)) next_counters c.args.next.now c.in_ok-ready.ensures two_words refl
     (c.in_ok-left.ensures c.args.lim (record { fitting = c.requires; whole = f.whole }))
     c.put_front.ensures refl
