@@ -3,7 +3,6 @@ use Rattle.std.proofs.Common.{◌≡◌, refl, sym, ap, ◌∙◌, ℕ, ◌<◌,
 use borrow.Author.Tests.{eq-eqb, ne_eqb}
 use Rattle.std.specs.Prelude.{Option, Some}
 use Rattle.console_words.specs.Words.{Word, words}
-use Rattle.console_words.specs.Inner.Split.{SplitsWord}
 use Rattle.console_names.specs.declared.Name.{Name}
 use Rattle.console_names.specs.Names.{name_of}
 use Rattle.console_text.specs.declared.Command.TheVariants as command
@@ -18,11 +17,12 @@ module _ (line : List ℕ) where
   unfolding command_of
   empty_line e = sym (ap of_words e)
 
-  module _ {word rest : List ℕ} (split : SplitsWord line word rest) where
+  -- a first word, and what the words of the line are
+  module _ {word rest : List ℕ} (words_are : words line ≡ word ∷ words rest) (some : 0 < length word) where
     pub comment_line : get_or word 0 0 ≡ 35 → Some command.Comment ≡ command_of line
     unfolding command_of
-    comment_line e = sym (ap of_words split.words_are ∙ rw (first_byte word split.some ∙ eq-eqb _ _ e))
+    comment_line e = sym (ap of_words words_are ∙ rw (first_byte word some ∙ eq-eqb _ _ e))
 
     pub named_line : (get_or word 0 0 ≡ 35 → ⊥) → (m : Option Name) → m ≡ name_of word → given m (λ n. by_name n (words rest)) ≡ command_of line
     unfolding command_of
-    named_line other m e = sym (ap of_words split.words_are ∙ rw (first_byte word split.some ∙ ne_eqb _ _ other, sym e))
+    named_line other m e = sym (ap of_words words_are ∙ rw (first_byte word some ∙ ne_eqb _ _ other, sym e))

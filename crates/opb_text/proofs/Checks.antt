@@ -1,5 +1,5 @@
 -- Texts and what they read as: document 01's input, and each refusal with the text that just misses it. Each list has one claim.
-use mathlib.Core.Path.{◌≡◌, refl}
+use mathlib.Core.Path.{◌≡◌, refl, ap}
 use mathlib.Core.Bool.{true, false}
 use mathlib.Core.List.{List, [], ◌∷◌, ◌++◌, map}
 use Prim.Native.Nat.{ℕ}
@@ -174,15 +174,21 @@ pub entries_full :
 unfolding relation_equal
 entries_full = refl
 
+-- 21 before 24
+pub variables_full :
+    variable_fault (counted 1 4095 0) ∷ variable_fault (counted 1 4096 0) ∷ variable_fault (sizing (counted 1 4096 0) AfterTerm (record { variables = 2; constraints = 1 })) ∷ []
+    ≡ None ∷ Some TooMany ∷ Some Count ∷ []
+unfolding variable_fault
+variables_full = refl
+
 -- the number of a fault, 0 for none
 abbrev pub number_of : Option Fault → ℕ
 number_of None = 0
 number_of (Some f) = fault_number f
 
--- 21 before 24
-pub variables_full :
+-- and by document 01's numbers
+pub variables_full_numbers :
     map number_of
     (variable_fault (counted 1 4095 0) ∷ variable_fault (counted 1 4096 0) ∷ variable_fault (sizing (counted 1 4096 0) AfterTerm (record { variables = 2; constraints = 1 })) ∷ [])
     ≡ 0 ∷ 24 ∷ 21 ∷ []
-unfolding variable_fault
-variables_full = refl
+variables_full_numbers = ap (map number_of) variables_full
