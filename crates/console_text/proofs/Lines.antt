@@ -17,12 +17,12 @@ module _ (line : List ℕ) where
   unfolding command_of
   empty_line e = sym (ap of_words e)
 
-  -- a first word, and what the words of the line are
-  module _ {word rest : List ℕ} (words_are : words line ≡ word ∷ words rest) (some : 0 < length word) where
+  -- a first word, and the others
+  module _ {word : Word} {others : List Word} (words_are : words line ≡ word ∷ others) (some : 0 < length word) where
     pub comment_line : get_or word 0 0 ≡ 35 → Some command.Comment ≡ command_of line
     unfolding command_of
     comment_line e = sym (ap of_words words_are ∙ rw (first_byte word some ∙ eq-eqb _ _ e))
 
-    pub named_line : (get_or word 0 0 ≡ 35 → ⊥) → (m : Option Name) → m ≡ name_of word → given m (λ n. by_name n (words rest)) ≡ command_of line
+    pub named_line : (get_or word 0 0 ≡ 35 → ⊥) → (m : Option Name) → m ≡ name_of word → given m (λ n. by_name n others) ≡ command_of line
     unfolding command_of
     named_line other m e = sym (ap of_words words_are ∙ rw (first_byte word some ∙ ne_eqb _ _ other, sym e))
