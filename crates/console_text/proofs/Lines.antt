@@ -25,4 +25,4 @@ module _ (line : List ℕ) where
 
     pub named_line : (get_or word 0 0 ≡ 35 → ⊥) → (m : Option Name) → m ≡ name_of word → given m (λ n. by_name n others) ≡ command_of line
     unfolding command_of
-    named_line other m e = sym (ap of_words words_are ∙ rw (first_byte word some ∙ ne_eqb _ _ other, sym e))
+    named_line not_hash m e = sym (ap of_words words_are ∙ rw (first_byte word some ∙ ne_eqb _ _ not_hash, sym e))

@@ -174,10 +174,13 @@ pub entries_full :
 unfolding relation_equal
 entries_full = refl
 
--- 21 before 24
-pub variables_full :
+-- at a variable: with room for one entry more, with none, and with none at a variable above V
+abbrev pub variable_faults : List (Option Fault)
+variable_faults =
     variable_fault (counted 1 4095 0) ∷ variable_fault (counted 1 4096 0) ∷ variable_fault (sizing (counted 1 4096 0) AfterTerm (record { variables = 2; constraints = 1 })) ∷ []
-    ≡ None ∷ Some TooMany ∷ Some Count ∷ []
+
+-- 21 before 24
+pub variables_full : variable_faults ≡ None ∷ Some TooMany ∷ Some Count ∷ []
 unfolding variable_fault
 variables_full = refl
 
@@ -187,8 +190,5 @@ number_of None = 0
 number_of (Some f) = fault_number f
 
 -- and by document 01's numbers
-pub variables_full_numbers :
-    map number_of
-    (variable_fault (counted 1 4095 0) ∷ variable_fault (counted 1 4096 0) ∷ variable_fault (sizing (counted 1 4096 0) AfterTerm (record { variables = 2; constraints = 1 })) ∷ [])
-    ≡ 0 ∷ 24 ∷ 21 ∷ []
+pub variables_full_numbers : map number_of variable_faults ≡ 0 ∷ 24 ∷ 21 ∷ []
 variables_full_numbers = ap (map number_of) variables_full
